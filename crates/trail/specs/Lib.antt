@@ -1,0 +1,4 @@
+pub mod Ends
+pub mod Held
+pub mod Item
+pub mod Number

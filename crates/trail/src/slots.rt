@@ -1,0 +1,36 @@
+// What a trail does with the slice of its places.
+// Readers take the slice for writing too, and say that it comes back as it was: a trail that lends its places
+// for reading alone would know nothing of them afterwards.
+ghost use mathlib.Core.Path.{_≡_};
+ghost use Prim.Native.Nat.{_<_};
+ghost use lib.ListN.{length, getD, set, take};
+
+pub fn count<T>(places: &mut [T]) -> usize
+    ensures value { λ r. ⌜ r ≡ length (now (places .entry)) ⌝ }
+    ensures same { λ _. ⌜ now (places .exit) ≡ now (places .entry) ⌝ }
+{
+    places.len()
+}
+
+// How many places are in use where `len` should be: never more than there are.
+pub fn used<T>(places: &mut [T], len: usize) -> usize
+    ensures value { λ r. ⌜ r ≡ length (take len (now (places .entry))) ⌝ }
+    ensures same { λ _. ⌜ now (places .exit) ≡ now (places .entry) ⌝ }
+{
+    len.min(places.len())
+}
+
+pub fn read<T: Copy>(places: &mut [T], at: usize) -> T
+    requires { ⌜ at < length (now places) ⌝ }
+    ensures value { λ r. ⌜ r ≡ getD (now (places .entry)) at r ⌝ }
+    ensures same { λ _. ⌜ now (places .exit) ≡ now (places .entry) ⌝ }
+{
+    places[at]
+}
+
+pub fn write<T: Copy>(places: &mut [T], at: usize, x: T)
+    requires { ⌜ at < length (now places) ⌝ }
+    ensures { λ _. ⌜ now (places .exit) ≡ set (now (places .entry)) at x ⌝ }
+{
+    places[at] = x;
+}
