@@ -1,8 +1,9 @@
--- What a trail holds, and how much it can hold.
+-- What a trail holds, how much it can hold, and what an operation may do to its lent places.
 use mathlib.Core.List.{List}
+use mathlib.Core.Path.{_≡_}
 use Prim.Native.Nat.{ℕ}
-use denote.Ref.{now}
-use lib.ListN.{length, take}
+use denote.Ref.{now, name}
+use lib.ListN.{length, take, drop}
 use Rattle.trail.specs.declared.Trail.{Trail}
 
 -- the elements, from the first to the last
@@ -12,3 +13,9 @@ held t = take (t .len) (now (t .places))
 -- how many elements it can hold in all
 abbrev pub room : {T : Type 0} → Trail T → ℕ
 room t = length (now (t .places))
+
+-- u stands over the same lent places as t, and all but the first n of them hold what they held
+pub record Kept {T : Type 0} (n : ℕ) (t u : Trail T) : Type 0 where
+  pub lender : name (u .places) ≡ name (t .places)
+  pub room-same : room u ≡ room t
+  pub later : drop n (now (u .places)) ≡ drop n (now (t .places))

@@ -1,0 +1,26 @@
+// Checking a list of actions against a model.
+ghost use Rattle.planner.specs.Checked.{Checked};
+use super::CheckFault;
+use model::Model;
+
+// Accepts the list, and answers how many actions it has, exactly where `state` is a state,
+// each action is allowed in the state that those before it reach, and the last state meets the goal.
+pub fn check<M: Model>(model: &M, state: M::State, actions: &[u16]) -> Result<usize, CheckFault<M::Fault>>
+    ensures { λ r. ⌜ Checked (M·Model .meaning (now (model .entry))) state (now (actions .entry)) r ⌝ }
+{
+    if !model.is_state(state) {
+        return Err(CheckFault::NotAState);
+    }
+    let mut at = state;
+    for (i, action) in actions.iter().enumerate() {
+        match model.step(at, *action) {
+            Ok(next) => at = next,
+            Err(cause) => return Err(CheckFault::Step { place: i + 1, cause }),
+        }
+    }
+    if model.at_goal(at) {
+        Ok(actions.len())
+    } else {
+        Err(CheckFault::Short { length: actions.len() })
+    }
+}
