@@ -1,2 +1,4 @@
 mod Checks
+mod Search
+mod Turns
 pub mod Ways

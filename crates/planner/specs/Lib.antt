@@ -1,3 +1,4 @@
 pub mod Checked
 pub mod Leads
 pub mod Number
+pub mod Search

@@ -1,0 +1,48 @@
+-- How far a depth-first search has come through the lists of exactly k actions.
+use mathlib.Core.List.{List, [], _∷_}
+use mathlib.Core.Logic.{_⊎_}
+use mathlib.Core.Path.{_≡_}
+use Prim.Native.Nat.{ℕ, zero, suc, pred, _+_, _-_, _*_, _≤_, _<_}
+use lib.ListN.{length}
+use Rattle.model.specs.Meaning.{Meaning}
+use Rattle.planner.specs.Leads.{Leads, Passes, NotAfter}
+
+-- The search holds a path of actions and the next action to try at its end. It goes through the lists in
+-- their order, so it has tried xs where xs comes before every list that goes on from the path with that action.
+abbrev pub Tried : List ℕ → ℕ → List ℕ → Type 0
+Tried [] next [] = ⊥
+Tried [] next (x ∷ xs) = x < next
+Tried (p ∷ path) next [] = ⊥
+Tried (p ∷ path) next (x ∷ xs) = (x < p) ⊎ ((x ≡ p) × Tried path next xs)
+
+pub record Progress {S F : Type 0} (m : Meaning S F) (s : S) (k : ℕ) (path : List ℕ) (ss : List S) (next : ℕ) : Type 0 where
+  pub passes : Passes m s path ss
+  pub short : length path ≤ k
+  pub next-within : next ≤ m .actions + 1
+  pub vain : (xs : List ℕ) → length xs ≡ k → Tried path next xs → Leads m s xs → ⊥
+
+-- the path is the first of the lists of k actions that lead to the goal
+pub record First {S F : Type 0} (m : Meaning S F) (s : S) (k : ℕ) (path : List ℕ) (ss : List S) : Type 0 where
+  pub passes : Passes m s path ss
+  pub counted : length path ≡ k
+  pub leads : Leads m s path
+  pub first : (ys : List ℕ) → length ys ≡ k → Leads m s ys → NotAfter path ys
+
+-- no list of exactly k actions leads to the goal
+abbrev pub NoneOf : {S F : Type 0} → Meaning S F → S → ℕ → Type 0
+NoneOf m s k = (xs : List ℕ) → length xs ≡ k → Leads m s xs → ⊥
+
+-- how many turns it takes to go through all lists of j of n actions and to turn back
+unfoldable pub all-turns : ℕ → ℕ → ℕ
+all-turns n zero = 1
+all-turns n (suc j) = n * (1 + all-turns n j) + 1
+
+-- how many of them are left where `next` is tried first
+unfoldable pub level-turns : ℕ → ℕ → ℕ → ℕ
+level-turns n zero next = 1
+level-turns n (suc j) next = (n + 1 - next) * (1 + all-turns n j) + 1
+
+-- how many are left below and to the right of a path
+unfoldable pub turns : ℕ → ℕ → List ℕ → ℕ → ℕ
+turns n k [] next = level-turns n k next
+turns n k (p ∷ path) next = turns n (pred k) path next + ((n - p) * (1 + all-turns n (pred k)) + 1)
