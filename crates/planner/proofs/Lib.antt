@@ -1,4 +1,5 @@
 mod Checks
-mod Search
+mod Lasts
+mod Progress
 mod Turns
 pub mod Ways

@@ -1,11 +1,15 @@
 -- How far a depth-first search has come through the lists of exactly k actions.
-use mathlib.Core.List.{List, [], _∷_}
+use mathlib.Core.List.{List, [], _∷_, _++_}
 use mathlib.Core.Logic.{_⊎_}
 use mathlib.Core.Path.{_≡_}
 use Prim.Native.Nat.{ℕ, zero, suc, pred, _+_, _-_, _*_, _≤_, _<_}
 use lib.ListN.{length}
+use Rattle.std.specs.declared.result.Result.{Result}
+use Rattle.std.specs.declared.result.Result.the-variants.{Ok, Err}
 use Rattle.model.specs.Meaning.{Meaning}
 use Rattle.planner.specs.Leads.{Leads, Passes, NotAfter}
+use Rattle.planner.specs.declared.search.Turn.{Turn}
+use Rattle.planner.specs.declared.search.Turn.the-variants.{Found, Spent, Next}
 
 -- The search holds a path of actions and the next action to try at its end. It goes through the lists in
 -- their order, so it has tried xs where xs comes before every list that goes on from the path with that action.
@@ -46,3 +50,26 @@ level-turns n (suc j) next = (n + 1 - next) * (1 + all-turns n j) + 1
 unfoldable pub turns : ℕ → ℕ → List ℕ → ℕ → ℕ
 turns n k [] next = level-turns n k next
 turns n k (p ∷ path) next = turns n (pred k) path next + ((n - p) * (1 + all-turns n (pred k)) + 1)
+
+-- the last element of a list, or d where there is none
+abbrev pub last-or : {T : Type 0} → List T → T → T
+last-or [] d = d
+last-or (x ∷ xs) d = last-or xs x
+
+-- What trying an action does, by the answer of its step: the path grows by it, or the action after it comes next.
+abbrev pub Tries : {S F : Type 0} → Result S F → List S → List ℕ → ℕ → Turn → List S → List ℕ → Type 0
+Tries (Ok t) ss path next r ss′ path′ = (r ≡ Next 1) × (ss′ ≡ ss ++ (t ∷ [])) × (path′ ≡ path ++ (next ∷ []))
+Tries (Err f) ss path next r ss′ path′ = (r ≡ Next (next + 1)) × (ss′ ≡ ss) × (path′ ≡ path)
+
+-- What turning back does: the path loses its last action, and the one after that comes next.
+abbrev pub Backs : {S : Type 0} → List S → List ℕ → Turn → List S → List ℕ → Type 0
+Backs ss path Found ss′ path′ = ⊥
+Backs ss path Spent ss′ path′ = path ≡ []
+Backs {S} ss path (Next n) ss′ path′ =
+    (a : ℕ) × (path ≡ path′ ++ (a ∷ [])) × (n ≡ a + 1) × ((front : List S) (u : S) → ss ≡ front ++ (u ∷ []) → ss′ ≡ front)
+
+-- What one turn does.
+abbrev pub Turned : {S F : Type 0} → Meaning S F → S → ℕ → List ℕ → ℕ → Turn → List ℕ → List S → Type 0
+Turned m s k path next Found path′ ss′ = First m s k path′ ss′
+Turned m s k path next Spent path′ ss′ = NoneOf m s k
+Turned m s k path next (Next n) path′ ss′ = Progress m s k path′ ss′ n × (turns (m .actions) k path′ n < turns (m .actions) k path next)

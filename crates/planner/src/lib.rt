@@ -1,6 +1,7 @@
 // Planning and checking, written once for every model.
 mod checking;
 mod fault;
+mod search;
 
 pub use checking::check;
 pub use fault::CheckFault;

@@ -8,10 +8,12 @@ use native.Mathlib.Decide.{decLe, decLt}
 use native.Mathlib.Omega.{arith}
 use lib.ListN.{length, length-append}
 use Rattle.std.proofs.shelf.Lists.{nil-from-length}
+use Rattle.std.specs.declared.result.Result.{Result}
 use Rattle.std.specs.declared.result.Result.the-variants.{Ok, Err}
 use Rattle.model.specs.Meaning.{Meaning, Lawful}
 use Rattle.planner.specs.Leads.{Leads, Reaches, Passes, NotAfter}
-use Rattle.planner.specs.Search.{Tried, Progress, First, NoneOf}
+use Rattle.planner.specs.Search.{Tried, Progress, First, NoneOf, Tries}
+use Rattle.planner.specs.declared.search.Turn.the-variants.{Next}
 use Rattle.planner.proofs.Ways.{ok-not-err, true-not-false, allowed-within, allowed-positive, leads-rest, leads-reached, passes-last, passes-push, passes-pop, passes-step, passes-length}
 
 -- of two lists of one length, the first is not after the second, or the second was tried before it
@@ -158,3 +160,7 @@ module _ {S F : Type 0} (m : Meaning S F) (law : Lawful m) (s : S) (k : ℕ) whe
           inl before ↦ p .vain xs c (tried-below path xs a next before) l
         | inr on ↦ let e = on .1 ∙ sym (append-assoc path (a ∷ []) (on .0)) in goes-on (on .0) (sym (ap length e) ∙ c) (subst (λ ys. Leads m s ys) e l)
         ]
+
+-- an action that is allowed lengthens the path
+pub tries-allowed : {S F : Type 0} (r : Result S F) (t : S) (ss ss′ : List S) (path path′ : List ℕ) (next : ℕ) → Ok t ≡ r → ss′ ≡ ss ++ (t ∷ []) → path′ ≡ path ++ (next ∷ []) → Tries r ss path next (Next 1) ss′ path′
+tries-allowed r t ss ss′ path path′ next e grown longer = subst (λ q. Tries q ss path next (Next 1) ss′ path′) e (refl, grown, longer)
