@@ -1,7 +1,7 @@
 -- The last element of a list. Assumes nothing.
 use mathlib.Core.List.{List, [], _∷_, _++_}
 use mathlib.Core.Path.{_≡_, refl, sym, ap, _∙_}
-use Prim.Native.Nat.{ℕ, _-_}
+use Prim.Native.Nat.{ℕ, _-_, _<_}
 use native.Mathlib.Omega.{arith}
 use lib.ListN.{length, getD}
 use Rattle.std.specs.Options.{valueOr}
@@ -25,3 +25,9 @@ module _ {T : Type 0} where
   pub last-pushed : (front : List T) (u d : T) → last-or (front ++ (u ∷ [])) d ≡ u
   last-pushed [] u d = refl
   last-pushed (x ∷ front) u d = last-pushed front u x
+
+  -- a list with an element is a front and its last element
+  pub split-last : (xs : List T) (d : T) → 0 < length xs → (front : List T) × (xs ≡ front ++ (last-or xs d ∷ []))
+  split-last [] d h = absurd (omega arith)
+  split-last (x ∷ []) d h = ([], refl)
+  split-last (x ∷ (y ∷ ys)) d h = let rest = split-last (y ∷ ys) x (omega arith) in (x ∷ rest .0, ap (λ l. x ∷ l) (rest .1))

@@ -62,3 +62,25 @@ fn back<T: Copy>(states: &mut Trail<T>, actions: &mut Trail<u16>) -> Turn
         None => Turn::Spent,
     }
 }
+
+// One turn: tests a whole path, tries the next action, or turns back.
+fn take_turn<M: Model>(model: &M, state: M::State, depth: u16, next: u16, states: &mut Trail<M::State>, actions: &mut Trail<u16>) -> Turn
+    requires progress { ⌜ Progress (M·Model .meaning (now model)) state depth (held (now actions)) (held (now states)) next ⌝ }
+    requires states_room { ⌜ depth + 1 ≤ room (now states) ⌝ }
+    requires actions_room { ⌜ depth ≤ room (now actions) ⌝ }
+    ensures turned { λ r. ⌜ Turned (M·Model .meaning (now (model .entry))) state depth (held (now (actions .entry))) next r (held (now (actions .exit))) (held (now (states .exit))) ⌝ }
+    ensures states_kept { λ _. ⌜ Kept (depth + 1) (now (states .entry)) (now (states .exit)) ⌝ }
+    ensures actions_kept { λ _. ⌜ Kept depth (now (actions .entry)) (now (actions .exit)) ⌝ }
+{
+    let at = last(states, state);
+    if actions.len() == depth as usize {
+        if model.at_goal(at) {
+            return Turn::Found;
+        }
+        return back(states, actions);
+    }
+    if next > model.actions() {
+        return back(states, actions);
+    }
+    forward(model, at, next, states, actions)
+}
