@@ -1,5 +1,6 @@
 mod Checks
 mod Lasts
+mod Plans
 mod Progress
 mod Turning
 mod Turns

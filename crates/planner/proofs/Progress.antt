@@ -22,12 +22,12 @@ tried-or-not-after [] ys next e = inl tt
 tried-or-not-after (x ∷ xs) [] next e = absurd (omega arith)
 tried-or-not-after (x ∷ xs) (y ∷ ys) next e =
     elim (decLt x y) [
-      yes h ↦ inl (inl h)
-    | no h ↦ elim (decLt y x) [
-        yes l ↦ inr (inl l)
-      | no l ↦ elim (tried-or-not-after xs ys next (omega arith)) [
-          inl after ↦ inl (inr (omega arith, after))
-        | inr tried ↦ inr (inr (omega arith, tried))
+      | yes h ↦ inl (inl h)
+      | no h ↦ elim (decLt y x) [
+        | yes l ↦ inr (inl l)
+        | no l ↦ elim (tried-or-not-after xs ys next (omega arith)) [
+          | inl after ↦ inl (inr (omega arith, after))
+          | inr tried ↦ inr (inr (omega arith, tried))
         ]
       ]
     ]
@@ -49,8 +49,8 @@ below-tried (p ∷ path) [] a next h = absurd h
 below-tried (p ∷ path) (x ∷ xs) a next (inl h) = inl (inl h)
 below-tried (p ∷ path) (x ∷ xs) a next (inr h) =
     elim (below-tried path xs a next (h .1)) [
-      inl t ↦ inl (inr (h .0, t))
-    | inr b ↦ inr (b .0, (ap (λ y. y ∷ xs) (h .0) ∙ ap (λ l. p ∷ l) (b .1)), b .2)
+      | inl t ↦ inl (inr (h .0, t))
+      | inr b ↦ inr (b .0, (ap (λ y. y ∷ xs) (h .0) ∙ ap (λ l. p ∷ l) (b .1)), b .2)
     ]
 
 -- what is tried once an action was tried was tried before it, or goes on from it
@@ -61,8 +61,8 @@ tried-next (p ∷ path) [] a h = absurd h
 tried-next (p ∷ path) (x ∷ xs) a (inl h) = inl (inl h)
 tried-next (p ∷ path) (x ∷ xs) a (inr h) =
     elim (tried-next path xs a (h .1)) [
-      inl t ↦ inl (inr (h .0, t))
-    | inr b ↦ inr (b .0, ap (λ y. y ∷ xs) (h .0) ∙ ap (λ l. p ∷ l) (b .1))
+      | inl t ↦ inl (inr (h .0, t))
+      | inr b ↦ inr (b .0, ap (λ y. y ∷ xs) (h .0) ∙ ap (λ l. p ∷ l) (b .1))
     ]
 
 -- a list that goes on from the path with an action before the next was tried
@@ -101,9 +101,9 @@ module _ {S F : Type 0} (m : Meaning S F) (law : Lawful m) (s : S) (k : ℕ) whe
       where
         none : (xs : List ℕ) → length xs ≡ k → Tried path (next + 1) xs → Leads m s xs → ⊥
         none xs c t l = elim (tried-next path xs next t) [
-            inl before ↦ p .vain xs c before l
+          | inl before ↦ p .vain xs c before l
           | inr on ↦ ok-not-err (leads-rest m s u path (next ∷ on .0) here (subst (λ ys. Leads m s ys) (on .1) l) .1) e
-          ]
+        ]
 
     -- the action leads on
     pub moves : (t : S) → length path < k → m .step u next ≡ Ok t → Progress m s k (path ++ (next ∷ [])) ((front ++ (u ∷ [])) ++ (t ∷ [])) 1
@@ -121,9 +121,9 @@ module _ {S F : Type 0} (m : Meaning S F) (law : Lawful m) (s : S) (k : ℕ) whe
 
         none : (xs : List ℕ) → length xs ≡ k → Tried (path ++ (next ∷ [])) 1 xs → Leads m s xs → ⊥
         none xs c t l = elim (below-tried path xs next 1 t) [
-            inl before ↦ p .vain xs c before l
+          | inl before ↦ p .vain xs c before l
           | inr on ↦ let rest = leads-rest m s u path (next ∷ on .0) here (subst (λ ys. Leads m s ys) (on .1) l) in zero-not-first (rest .0) (on .0) (on .2) (rest .2)
-          ]
+        ]
 
     pub spent-whole : length path ≡ k → m .at-goal u ≡ false → Spent m k path u next
     spent-whole e goal [] c l = absurd (true-not-false l goal)
@@ -157,9 +157,9 @@ module _ {S F : Type 0} (m : Meaning S F) (law : Lawful m) (s : S) (k : ℕ) whe
 
       none : (xs : List ℕ) → length xs ≡ k → Tried path (a + 1) xs → Leads m s xs → ⊥
       none xs c t l = elim (tried-next path xs a t) [
-          inl before ↦ p .vain xs c (tried-below path xs a next before) l
+        | inl before ↦ p .vain xs c (tried-below path xs a next before) l
         | inr on ↦ let e = on .1 ∙ sym (append-assoc path (a ∷ []) (on .0)) in goes-on (on .0) (sym (ap length e) ∙ c) (subst (λ ys. Leads m s ys) e l)
-        ]
+      ]
 
 -- an action that is allowed lengthens the path
 pub tries-allowed : {S F : Type 0} (r : Result S F) (t : S) (ss ss′ : List S) (path path′ : List ℕ) (next : ℕ) → Ok t ≡ r → ss′ ≡ ss ++ (t ∷ []) → path′ ≡ path ++ (next ∷ []) → Tries r ss path next (Next 1) ss′ path′

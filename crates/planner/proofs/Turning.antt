@@ -60,8 +60,8 @@ module _ {S F : Type 0} (m : Meaning S F) (law : Lawful m) (s : S) (k : ℕ) (pa
         let e = h .1 in
         let shorter : length path′ < k = omega (arith, p .short, ap length e, length-append path′ (a ∷ [])) in
         let back = progress.returns m law s k path′ a (split .0) at next
-                (subst (λ l. Progress m s k l (split .0 ++ (at ∷ [])) next) e ahead)
-                (subst (λ l. progress.Spent m k l at next) e spent) in
+        (subst (λ l. Progress m s k l (split .0 ++ (at ∷ [])) next) e ahead)
+        (subst (λ l. progress.Spent m k l at next) e spent) in
         let fewer = fewer-back (m .actions) k path′ shorter a next in
         (subst₂ (λ l i. Progress m s k path′ l i) (sym (h .3 (split .0) at (split .1))) (sym (h .2)) back, rw (h .2, e) (rw append-nil at fewer))
 

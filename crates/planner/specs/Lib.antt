@@ -1,4 +1,5 @@
 pub mod Checked
 pub mod Leads
 pub mod Number
+pub mod Planned
 pub mod Search

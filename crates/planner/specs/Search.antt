@@ -2,6 +2,7 @@
 use mathlib.Core.List.{List, [], _∷_, _++_}
 use mathlib.Core.Logic.{_⊎_}
 use mathlib.Core.Path.{_≡_}
+use mathlib.Core.Bool.{Bool, true, false}
 use Prim.Native.Nat.{ℕ, zero, suc, pred, _+_, _-_, _*_, _≤_, _<_}
 use lib.ListN.{length}
 use Rattle.std.specs.declared.result.Result.{Result}
@@ -73,3 +74,8 @@ abbrev pub Turned : {S F : Type 0} → Meaning S F → S → ℕ → List ℕ �
 Turned m s k path next Found path′ ss′ = First m s k path′ ss′
 Turned m s k path next Spent path′ ss′ = NoneOf m s k
 Turned m s k path next (Next n) path′ ss′ = Progress m s k path′ ss′ n × (turns (m .actions) k path′ n < turns (m .actions) k path next)
+
+-- What a search through the lists of k actions answers: the first that leads is on the trails, or none leads.
+abbrev pub Explored : {S F : Type 0} → Meaning S F → S → ℕ → Bool → List ℕ → List S → Type 0
+Explored m s k true path ss = First m s k path ss
+Explored m s k false path ss = NoneOf m s k

@@ -5,7 +5,11 @@ use model::Model;
 
 // Accepts the list, and answers how many actions it has, exactly where `state` is a state,
 // each action is allowed in the state that those before it reach, and the last state meets the goal.
-pub fn check<M: Model>(model: &M, state: M::State, actions: &[u16]) -> Result<usize, CheckFault<M::Fault>>
+pub fn check<M: Model>(
+    model: &M,
+    state: M::State,
+    actions: &[u16],
+) -> Result<usize, CheckFault<M::Fault>>
     ensures { λ r. ⌜ Checked (M·Model .meaning (now (model .entry))) state (now (actions .entry)) r ⌝ }
 {
     if !model.is_state(state) {
@@ -15,12 +19,17 @@ pub fn check<M: Model>(model: &M, state: M::State, actions: &[u16]) -> Result<us
     for (i, action) in actions.iter().enumerate() {
         match model.step(at, *action) {
             Ok(next) => at = next,
-            Err(cause) => return Err(CheckFault::Step { place: i + 1, cause }),
+            Err(cause) => return Err(CheckFault::Step {
+                place: i + 1,
+                cause,
+            }),
         }
     }
     if model.at_goal(at) {
         Ok(actions.len())
     } else {
-        Err(CheckFault::Short { length: actions.len() })
+        Err(CheckFault::Short {
+            length: actions.len(),
+        })
     }
 }

@@ -1,6 +1,7 @@
 // Planning and checking, written once for every model.
 mod checking;
 mod fault;
+mod planning;
 mod search;
 
 pub use checking::check;
@@ -8,3 +9,5 @@ pub use fault::CheckFault;
 pub use fault::CheckFaultCause;
 pub use fault::PlanFault;
 pub use fault::PlanFaultCause;
+pub use planning::PlanAnswer;
+pub use planning::plan;

@@ -4,7 +4,7 @@ ghost use mathlib.Core.Path.{_≡_};
 ghost use mathlib.Core.List.{List, [], _∷_, _++_};
 ghost use Prim.Native.Nat.{ℕ, _+_, _≤_, _<_};
 ghost use lib.ListN.{length};
-ghost use Rattle.planner.specs.Search.{Progress, Turned, Tries, Backs, last-or};
+ghost use Rattle.planner.specs.Search.{Progress, Turned, Tries, Backs, Explored, last-or};
 ghost use Rattle.trail.specs.Held.{held, room, Kept};
 use model::Model;
 use trail::Trail;
@@ -29,7 +29,13 @@ fn last<T: Copy>(trail: &mut Trail<T>, default: T) -> T
 }
 
 // Tries the action `next` from `at`, the state at the path's end.
-fn forward<M: Model>(model: &M, at: M::State, next: u16, states: &mut Trail<M::State>, actions: &mut Trail<u16>) -> Turn
+fn forward<M: Model>(
+    model: &M,
+    at: M::State,
+    next: u16,
+    states: &mut Trail<M::State>,
+    actions: &mut Trail<u16>,
+) -> Turn
     requires next_within { ⌜ next ≤ 200 ⌝ }
     requires states_room { ⌜ length (held (now states)) < room (now states) ⌝ }
     requires actions_room { ⌜ length (held (now actions)) < room (now actions) ⌝ }
@@ -64,7 +70,14 @@ fn back<T: Copy>(states: &mut Trail<T>, actions: &mut Trail<u16>) -> Turn
 }
 
 // One turn: tests a whole path, tries the next action, or turns back.
-fn take_turn<M: Model>(model: &M, state: M::State, depth: u16, next: u16, states: &mut Trail<M::State>, actions: &mut Trail<u16>) -> Turn
+fn take_turn<M: Model>(
+    model: &M,
+    state: M::State,
+    depth: u16,
+    next: u16,
+    states: &mut Trail<M::State>,
+    actions: &mut Trail<u16>,
+) -> Turn
     requires progress { ⌜ Progress (M·Model .meaning (now model)) state depth (held (now actions)) (held (now states)) next ⌝ }
     requires states_room { ⌜ depth + 1 ≤ room (now states) ⌝ }
     requires actions_room { ⌜ depth ≤ room (now actions) ⌝ }
@@ -83,4 +96,42 @@ fn take_turn<M: Model>(model: &M, state: M::State, depth: u16, next: u16, states
         return back(states, actions);
     }
     forward(model, at, next, states, actions)
+}
+
+// The empty path, which stands at `state`.
+fn begin<T: Copy>(state: T, states: &mut Trail<T>, actions: &mut Trail<u16>)
+    requires { ⌜ 0 < room (now states) ⌝ }
+    ensures path { λ _. ⌜ held (now (actions .exit)) ≡ [] ⌝ }
+    ensures passed { λ _. ⌜ held (now (states .exit)) ≡ state ∷ [] ⌝ }
+    ensures states_kept { λ _. ⌜ Kept 1 (now (states .entry)) (now (states .exit)) ⌝ }
+    ensures actions_kept { λ _. ⌜ Kept 0 (now (actions .entry)) (now (actions .exit)) ⌝ }
+{
+    actions.clear();
+    states.clear();
+    let _ = states.push(state);
+}
+
+// Searches the lists of exactly `depth` actions, and answers whether one leads to the goal.
+pub fn explore<M: Model>(
+    model: &M,
+    state: M::State,
+    depth: u16,
+    states: &mut Trail<M::State>,
+    actions: &mut Trail<u16>,
+) -> bool
+    requires states_room { ⌜ depth + 1 ≤ room (now states) ⌝ }
+    requires actions_room { ⌜ depth ≤ room (now actions) ⌝ }
+    ensures explored { λ r. ⌜ Explored (M·Model .meaning (now (model .entry))) state depth r (held (now (actions .exit))) (held (now (states .exit))) ⌝ }
+    ensures states_kept { λ _. ⌜ Kept (depth + 1) (now (states .entry)) (now (states .exit)) ⌝ }
+    ensures actions_kept { λ _. ⌜ Kept depth (now (actions .entry)) (now (actions .exit)) ⌝ }
+{
+    begin(state, states, actions);
+    let mut next = 1;
+    loop {
+        match take_turn(model, state, depth, next, states, actions) {
+            Turn::Found => return true,
+            Turn::Spent => return false,
+            Turn::Next(action) => next = action,
+        }
+    }
 }
