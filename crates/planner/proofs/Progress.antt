@@ -13,7 +13,7 @@ use Rattle.std.specs.declared.result.Result.the-variants.{Ok, Err}
 use Rattle.model.specs.Meaning.{Meaning, Lawful}
 use Rattle.planner.specs.Leads.{Leads, Reaches, Passes, NotAfter}
 use Rattle.planner.specs.Search.{Tried, Progress, First, NoneOf, Tries}
-use Rattle.planner.specs.declared.search.Turn.the-variants.{Next}
+use Rattle.planner.specs.declared.planning.Turn.the-variants.{Next}
 use Rattle.planner.proofs.Ways.{ok-not-err, true-not-false, allowed-within, allowed-positive, leads-rest, leads-reached, passes-last, passes-push, passes-pop, passes-step, passes-length}
 
 -- of two lists of one length, the first is not after the second, or the second was tried before it

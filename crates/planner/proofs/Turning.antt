@@ -13,8 +13,8 @@ use Rattle.trail.specs.Held.{held, room, Kept}
 use Rattle.trail.specs.declared.Trail.{Trail}
 use Rattle.planner.specs.Leads.{Passes}
 use Rattle.planner.specs.Search.{Progress, First, NoneOf, Tries, Backs, Turned, last-or, turns}
-use Rattle.planner.specs.declared.search.Turn.{Turn}
-use Rattle.planner.specs.declared.search.Turn.the-variants.{Found, Spent, Next}
+use Rattle.planner.specs.declared.planning.Turn.{Turn}
+use Rattle.planner.specs.declared.planning.Turn.the-variants.{Found, Spent, Next}
 use Rattle.planner.proofs.Lasts.{split-last}
 use Rattle.planner.proofs.Progress as progress
 use Rattle.planner.proofs.Turns.{fewer-deeper, fewer-beside, fewer-back}

@@ -9,8 +9,8 @@ use Rattle.std.specs.declared.result.Result.{Result}
 use Rattle.std.specs.declared.result.Result.the-variants.{Ok, Err}
 use Rattle.model.specs.Meaning.{Meaning}
 use Rattle.planner.specs.Leads.{Leads, Passes, NotAfter}
-use Rattle.planner.specs.declared.search.Turn.{Turn}
-use Rattle.planner.specs.declared.search.Turn.the-variants.{Found, Spent, Next}
+use Rattle.planner.specs.declared.planning.Turn.{Turn}
+use Rattle.planner.specs.declared.planning.Turn.the-variants.{Found, Spent, Next}
 
 -- The search holds a path of actions and the next action to try at its end. It goes through the lists in
 -- their order, so it has tried xs where xs comes before every list that goes on from the path with that action.

@@ -2,7 +2,6 @@
 mod checking;
 mod fault;
 mod planning;
-mod search;
 
 pub use checking::check;
 pub use fault::CheckFault;

@@ -3,10 +3,10 @@ ghost use mathlib.Core.Path.{_≡_};
 ghost use Rattle.trail.specs.Ends.{Pushed, Popped, Cleared};
 use super::Trail;
 use super::TrailFault;
-use super::slots::count;
-use super::slots::read;
-use super::slots::used;
-use super::slots::write;
+use super::count;
+use super::read;
+use super::used;
+use super::write;
 
 impl<'a, T: Copy> Trail<'a, T> {
     // Adds an element, and answers how many there are now.

@@ -5,9 +5,9 @@ ghost use lib.ListN.{length, getD};
 ghost use Rattle.trail.specs.Held.{held, room};
 ghost use Rattle.trail.specs.Item.{Item};
 use super::Trail;
-use super::slots::count;
-use super::slots::read;
-use super::slots::used;
+use super::count;
+use super::read;
+use super::used;
 
 impl<'a, T: Copy> Trail<'a, T> {
     // How many elements it holds.

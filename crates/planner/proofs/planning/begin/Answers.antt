@@ -5,7 +5,7 @@ use native.Mathlib.Omega.{arith}
 use lib.ListN.{length}
 use Rattle.trail.proofs.Effects.{kept-added, kept-cleared, kept-trans, pushed-added}
 use Rattle.trail.specs.Held.{held, room}
-use Rattle.planner.proofs.search.begin.Needs as need
+use Rattle.planner.proofs.planning.begin.Needs as need
 
 pub returns : need.returns
 returns g c =

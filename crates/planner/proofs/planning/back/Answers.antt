@@ -1,6 +1,6 @@
 use mathlib.Core.Path.{refl}
 use Rattle.trail.proofs.Effects.{popped-front, kept-popped, kept-taken}
-use Rattle.planner.proofs.search.back.Needs as need
+use Rattle.planner.proofs.planning.back.Needs as need
 
 pub returns-in-Some : need.returns-in-Some
 returns-in-Some g c =

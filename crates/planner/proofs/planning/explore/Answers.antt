@@ -3,7 +3,7 @@ use native.Mathlib.Omega.{arith}
 use Rattle.trail.proofs.Effects.{kept-refl, kept-trans, kept-fewer}
 use Rattle.planner.specs.Search.{Progress}
 use Rattle.planner.proofs.Progress.{starts}
-use Rattle.planner.proofs.search.explore.Needs as need
+use Rattle.planner.proofs.planning.explore.Needs as need
 
 pub loop-action-holds : need.loop-action-holds
 loop-action-holds g c =

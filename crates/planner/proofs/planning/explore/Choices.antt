@@ -1,7 +1,7 @@
 use Prim.Native.Nat.{_+_, _≤_}
 use Rattle.trail.specs.Held.{held, room, Kept}
 use Rattle.planner.specs.Search.{Progress, turns}
-use Rattle.planner.proofs.search.explore.Given as given
+use Rattle.planner.proofs.planning.explore.Given as given
 
 abbrev pub Inv-loop-action : given.InvT-loop-action
 Inv-loop-action g l =

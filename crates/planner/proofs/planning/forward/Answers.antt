@@ -3,7 +3,7 @@ use native.Mathlib.Omega.{arith}
 use Rattle.trail.proofs.Effects.{pushed-added, kept-added}
 use Rattle.trail.specs.Held.{held}
 use Rattle.planner.proofs.Progress.{tries-allowed}
-use Rattle.planner.proofs.search.forward.Needs as need
+use Rattle.planner.proofs.planning.forward.Needs as need
 
 pub returns-in-Ok : need.returns-in-Ok
 returns-in-Ok g c =

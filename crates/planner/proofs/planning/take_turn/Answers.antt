@@ -3,7 +3,7 @@ use native.Mathlib.Omega.{arith}
 use Rattle.trail.proofs.Effects.{kept-same, kept-trans}
 use Rattle.trail.specs.Held.{held}
 use Rattle.planner.proofs.Turning.{asked-few, asked-room, asked-finds, asked-backs, asked-tries, asked-kept, spent-whole, spent-level}
-use Rattle.planner.proofs.search.take_turn.Needs as need
+use Rattle.planner.proofs.planning.take_turn.Needs as need
 
 pub returns-then-at-goal : need.returns-then-at-goal
 returns-then-at-goal g c =

@@ -5,7 +5,7 @@ use lib.ListN.{length}
 use Rattle.trail.specs.Held.{held}
 use Rattle.planner.specs.Search.{last-or}
 use Rattle.planner.proofs.Lasts.{last-item}
-use Rattle.planner.proofs.search.last.Needs as need
+use Rattle.planner.proofs.planning.last.Needs as need
 
 pub returns : need.returns
 returns g c =

@@ -1,0 +1,4 @@
+pub mod Hall
+pub mod Jobs
+pub mod Number
+pub mod Plant

@@ -1,0 +1,36 @@
+-- When a plant is in a state that it may be in, and when the rollover is done.
+use mathlib.Core.Bool.{Bool, true, false, not, _&&_, _||_}
+use Rattle.own_plant.specs.declared.plant.Plant.{Plant}
+use Rattle.own_plant.specs.declared.plant.Store.{Store}
+use Rattle.own_plant.specs.declared.plant.Store.the-variants.{OldRoot, BothRoots}
+use Rattle.own_plant.specs.declared.plant.Chain.{Chain}
+use Rattle.own_plant.specs.declared.plant.Chain.the-variants.{Old, New}
+use Rattle.own_plant.specs.declared.plant.Window.{Window}
+use Rattle.own_plant.specs.declared.plant.Window.the-variants.{Closed, Open}
+
+abbrev pub serves-new : Chain → Bool
+serves-new Old = false
+serves-new New = true
+
+abbrev pub is-open : Window → Bool
+is-open Closed = false
+is-open Open = true
+
+-- a press is on the network where it trusts the chain that its gateway serves
+abbrev pub on-network : Store → Chain → Bool
+on-network store Old = true
+on-network OldRoot New = false
+on-network BothRoots New = true
+
+-- the window is open only once gateway 1 serves the new chain
+abbrev pub is-state : Plant → Bool
+is-state p = not (is-open (p .window)) || serves-new (p .gateway1)
+
+abbrev pub at-goal : Plant → Bool
+at-goal p =
+    serves-new (p .gateway1)
+    && (serves-new (p .gateway2)
+    && (not (is-open (p .window))
+    && (on-network (p .press1) (p .gateway1)
+    && (on-network (p .press2) (p .gateway1)
+    && on-network (p .press3) (p .gateway2)))))

@@ -1,0 +1,166 @@
+// A customer's own plant under the planner: plans its rollover, checks lists of actions, and prints what it did.
+mod fault;
+mod hall;
+mod job;
+mod plant;
+
+use fault::HallFault;
+use fault::HallFaultCause;
+use fault::HallFaultDisplay;
+use hall::Hall;
+use hall::HallModel;
+use hall::HallShown;
+use job::Job;
+use job::JobDisplay;
+use model::Cause;
+use model::Model;
+use model::ShownModel;
+use planner::CheckFault;
+use planner::CheckFaultCause;
+use planner::PlanAnswer;
+use planner::PlanFault;
+use planner::PlanFaultCause;
+use planner::check;
+use planner::plan;
+use plant::Plant;
+use plant::Window;
+use std::io;
+use trail::Trail;
+
+// As many places as the longest plan needs.
+const STATES: usize = 25;
+
+const ACTIONS: usize = 24;
+
+fn print_numbers(rt: &LibcRuntime, hall: &Hall, s: Plant) -> io::Result<()> {
+    for place in 1..=hall.places() {
+        let number = hall.number(s, place);
+        print!(rt, " {number}")?;
+    }
+    Ok(())
+}
+
+// One line: the shown numbers, and the job that led there.
+fn print_step(rt: &LibcRuntime, hall: &Hall, s: Plant, step: usize, action: u16) -> io::Result<()> {
+    print_numbers(rt, hall, s)?;
+    match Job::of(action) {
+        Some(job) => println!(rt, "  after step {step}, action {action}: {job}"),
+        None => println!(rt, "  after step {step}, action {action}"),
+    }
+}
+
+fn print_plan(rt: &LibcRuntime, hall: &Hall, states: &[Plant], actions: &[u16]) -> io::Result<()> {
+    print_numbers(rt, hall, hall.start())?;
+    println!(rt, "  at the start")?;
+    for (i, (action, s)) in actions.iter().zip(states.iter().skip(1)).enumerate() {
+        print_step(rt, hall, *s, i.saturating_add(1), *action)?;
+    }
+    Ok(())
+}
+
+fn print_check(rt: &LibcRuntime, hall: &Hall, s: Plant, actions: &[u16]) -> io::Result<()> {
+    print!(rt, "check of")?;
+    for action in actions {
+        print!(rt, " {action}")?;
+    }
+    match check(hall, s, actions) {
+        Ok(count) => println!(rt, ": accepted, {count} actions"),
+        Err(fault) => {
+            let number = fault.number();
+            let added = fault.added();
+            match fault {
+                CheckFault::NotAState => println!(
+                    rt,
+                    ": refused, {number} at place {added}: not a state"
+                ),
+                CheckFault::Step { cause, .. } => println!(
+                    rt,
+                    ": refused, {number} at place {added}: {cause}"
+                ),
+                CheckFault::Short { .. } => println!(
+                    rt,
+                    ": refused, {number} after {added} actions: short of the goal"
+                ),
+            }
+        }
+    }
+}
+
+fn print_refusal(rt: &LibcRuntime, fault: PlanFault) -> io::Result<()> {
+    let number = fault.number();
+    match fault {
+        PlanFault::NotAState => println!(rt, "refused, {number}: the hall cannot stand like this"),
+        PlanFault::FewStates => println!(rt, "refused, {number}: too few places for states"),
+        PlanFault::FewActions => println!(rt, "refused, {number}: too few places for actions"),
+    }
+}
+
+// Plans from `s` over the lent places, prints the answer, and checks a plan that was found.
+fn print_planning(
+    rt: &LibcRuntime,
+    hall: &Hall,
+    s: Plant,
+    bound: u16,
+    states: &mut [Plant],
+    actions: &mut [u16],
+) -> io::Result<()> {
+    print!(rt, "plan within {bound} steps: ")?;
+    let answer = plan(
+        hall,
+        s,
+        bound,
+        &mut Trail::new(&mut *states),
+        &mut Trail::new(&mut *actions),
+    );
+    match answer {
+        Ok(PlanAnswer::Steps(steps)) => {
+            println!(rt, "{steps} steps")?;
+            let list = &actions[0..steps as usize];
+            print_plan(rt, hall, states, list)?;
+            print_check(rt, hall, s, list)
+        }
+        Ok(PlanAnswer::NoWay) => println!(rt, "no way"),
+        Err(fault) => print_refusal(rt, fault),
+    }
+}
+
+// A plan, the lack of one at one step less, and lists that are not accepted.
+fn print_answers(rt: &LibcRuntime, hall: &Hall) -> io::Result<()> {
+    let start = hall.start();
+    let mut states = [start; STATES];
+    let mut actions = [0; ACTIONS];
+    print_planning(rt, hall, start, 24, &mut states, &mut actions)?;
+    print_planning(rt, hall, start, 6, &mut states, &mut actions)?;
+    print_check(rt, hall, start, &[4, 2, 1])?;
+    print_check(rt, hall, start, &[1, 2, 4])
+}
+
+// What is refused: a value that is not a state, and one place less than a plan of 24 actions needs.
+fn print_refusals(rt: &LibcRuntime, hall: &Hall) -> io::Result<()> {
+    let start = hall.start();
+    let impossible = Plant {
+        window: Window::Open,
+        ..start
+    };
+    let mut states = [start; STATES];
+    let mut actions = [0; ACTIONS];
+    print_check(rt, hall, impossible, &[7])?;
+    print_planning(rt, hall, impossible, 24, &mut states, &mut actions)?;
+    print_planning(rt, hall, start, 24, &mut [start; STATES - 1], &mut actions)?;
+    print_planning(rt, hall, start, 24, &mut states, &mut [0; ACTIONS - 1])
+}
+
+fn main(rt: LibcRuntime) -> io::Result<()> {
+    let hall = Hall;
+    println!(rt, "Rolling a hall over to its new certificate chain.")?;
+    println!(
+        rt,
+        "Shown, 1 for yes: presses 1 to 3 trust the new root, gateways 1 and 2 serve the new chain,"
+    )?;
+    println!(
+        rt,
+        "the maintenance window is open, presses 1 to 3 are on the network."
+    )?;
+    print_answers(&rt, &hall)?;
+    print_refusals(&rt, &hall)
+}
