@@ -2,3 +2,4 @@ pub mod Hall
 pub mod Jobs
 pub mod Number
 pub mod Plant
+pub mod Rules

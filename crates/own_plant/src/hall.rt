@@ -2,6 +2,8 @@
 ghost use mathlib.Core.Path.{_≡_};
 ghost use Rattle.own_plant.specs.Jobs.{after, can-install, can-switch2, can-open, can-close, can-put-back1, can-put-back2, can-switch1};
 ghost use Rattle.own_plant.specs.Hall.{hall-meaning, hall-shown};
+ghost use Rattle.own_plant.specs.Rules.{Rules};
+ghost use Rattle.std.specs.Vec.{made};
 use super::fault::HallFault;
 use super::job::Job;
 use super::plant::Chain;
@@ -84,7 +86,8 @@ fn can_put_back2(chain: Chain, window: Window) -> Result<(), HallFault>
 
 // How the hall stands after a job, or why the job cannot be done.
 fn after(s: Plant, job: Job) -> Result<Plant, HallFault>
-    ensures { λ r. ⌜ r ≡ after s job ⌝ }
+    ensures value { λ r. ⌜ r ≡ after s job ⌝ }
+    ensures rules { λ r. ⌜ made r (λ t. Rules s t) ⌝ }
 {
     match job {
         Job::Install1 => {
@@ -184,7 +187,10 @@ pub impl Model for Hall as HallModel {
         s.at_goal()
     }
 
-    fn step(&self, s: Plant, action: u16) -> Result<Plant, HallFault> {
+    fn step(&self, s: Plant, action: u16) -> Result<Plant, HallFault>
+        ensures { λ r. ⌜ r ≡ hall-meaning .step s action ⌝ }
+        ensures { λ r. ⌜ made r (λ t. Rules s t) ⌝ }
+    {
         let Some(job) = Job::of(action) else {
             return Err(HallFault::NoSuchJob);
         };

@@ -49,8 +49,14 @@ fn print_step(rt: &LibcRuntime, hall: &Hall, s: Plant, step: usize, action: u16)
     }
 }
 
-fn print_plan(rt: &LibcRuntime, hall: &Hall, states: &[Plant], actions: &[u16]) -> io::Result<()> {
-    print_numbers(rt, hall, hall.start())?;
+fn print_plan(
+    rt: &LibcRuntime,
+    hall: &Hall,
+    s: Plant,
+    states: &[Plant],
+    actions: &[u16],
+) -> io::Result<()> {
+    print_numbers(rt, hall, s)?;
     println!(rt, "  at the start")?;
     for (i, (action, s)) in actions.iter().zip(states.iter().skip(1)).enumerate() {
         print_step(rt, hall, *s, i.saturating_add(1), *action)?;
@@ -116,7 +122,7 @@ fn print_planning(
         Ok(PlanAnswer::Steps(steps)) => {
             println!(rt, "{steps} steps")?;
             let list = &actions[0..steps as usize];
-            print_plan(rt, hall, states, list)?;
+            print_plan(rt, hall, s, states, list)?;
             print_check(rt, hall, s, list)
         }
         Ok(PlanAnswer::NoWay) => println!(rt, "no way"),

@@ -10,6 +10,8 @@ mod questions;
 
 pub use fault::TrailFault;
 pub use fault::TrailFaultCause;
+pub use fault::TrailFaultDebug;
+pub use fault::TrailFaultPartialEq;
 
 // The first `len` of the lent places hold the elements.
 #[derive(Drop)]
