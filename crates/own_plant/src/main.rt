@@ -1,17 +1,14 @@
 // A customer's own plant under the planner: plans its rollover, checks lists of actions, and prints what it did.
-mod fault;
-mod hall;
-mod job;
-mod plant;
-
-use fault::HallFault;
-use fault::HallFaultCause;
-use fault::HallFaultDisplay;
 use hall::Hall;
+use hall::HallFault;
+use hall::HallFaultCause;
+use hall::HallFaultDisplay;
 use hall::HallModel;
 use hall::HallShown;
-use job::Job;
-use job::JobDisplay;
+use hall::Job;
+use hall::JobDisplay;
+use hall::Plant;
+use hall::Window;
 use model::Cause;
 use model::Model;
 use model::ShownModel;
@@ -22,8 +19,6 @@ use planner::PlanFault;
 use planner::PlanFaultCause;
 use planner::check;
 use planner::plan;
-use plant::Plant;
-use plant::Window;
 use std::io;
 use trail::Trail;
 

@@ -1,6 +1,6 @@
 // What a crew can do in the hall: the actions of the model, by their numbers.
 ghost use mathlib.Core.Path.{_≡_};
-ghost use Rattle.own_plant.specs.Jobs.{job};
+ghost use Rattle.hall.specs.Jobs.{job};
 use std::fmt;
 
 #[derive(Clone, Copy)]

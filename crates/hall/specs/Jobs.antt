@@ -6,17 +6,17 @@ use Rattle.std.specs.declared.option.Option.{Option}
 use Rattle.std.specs.declared.option.Option.the-variants.{None, Some}
 use Rattle.std.specs.declared.result.Result.{Result}
 use Rattle.std.specs.declared.result.Result.the-variants.{Ok, Err}
-use Rattle.own_plant.specs.declared.fault.HallFault.{HallFault}
-use Rattle.own_plant.specs.declared.fault.HallFault.the-variants.{AlreadyDone, OffNetwork, WindowClosed, WindowOpen, TooEarly}
-use Rattle.own_plant.specs.declared.job.Job.{Job}
-use Rattle.own_plant.specs.declared.job.Job.the-variants.{Install1, Install2, Install3, Switch1, Switch2, OpenWindow, CloseWindow, PutBack1, PutBack2}
-use Rattle.own_plant.specs.declared.plant.Plant.{Plant}
-use Rattle.own_plant.specs.declared.plant.Store.{Store}
-use Rattle.own_plant.specs.declared.plant.Store.the-variants.{OldRoot, BothRoots}
-use Rattle.own_plant.specs.declared.plant.Chain.{Chain}
-use Rattle.own_plant.specs.declared.plant.Chain.the-variants.{Old, New}
-use Rattle.own_plant.specs.declared.plant.Window.{Window}
-use Rattle.own_plant.specs.declared.plant.Window.the-variants.{Closed, Open}
+use Rattle.hall.specs.declared.fault.HallFault.{HallFault}
+use Rattle.hall.specs.declared.fault.HallFault.the-variants.{AlreadyDone, OffNetwork, WindowClosed, WindowOpen, TooEarly}
+use Rattle.hall.specs.declared.job.Job.{Job}
+use Rattle.hall.specs.declared.job.Job.the-variants.{Install1, Install2, Install3, Switch1, Switch2, OpenWindow, CloseWindow, PutBack1, PutBack2}
+use Rattle.hall.specs.declared.plant.Plant.{Plant}
+use Rattle.hall.specs.declared.plant.Store.{Store}
+use Rattle.hall.specs.declared.plant.Store.the-variants.{OldRoot, BothRoots}
+use Rattle.hall.specs.declared.plant.Chain.{Chain}
+use Rattle.hall.specs.declared.plant.Chain.the-variants.{Old, New}
+use Rattle.hall.specs.declared.plant.Window.{Window}
+use Rattle.hall.specs.declared.plant.Window.the-variants.{Closed, Open}
 
 -- the jobs by the numbers of their actions; there is no action 0
 abbrev pub jobs : List (Option Job)

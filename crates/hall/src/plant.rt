@@ -1,6 +1,6 @@
 // Where the plant stands.
 ghost use mathlib.Core.Path.{_≡_};
-ghost use Rattle.own_plant.specs.Plant.{is-state, at-goal, on-network, serves-new, is-open};
+ghost use Rattle.hall.specs.Plant.{is-state, at-goal, on-network, serves-new, is-open};
 
 // Which roots a press trusts.
 #[derive(Clone, Copy)]

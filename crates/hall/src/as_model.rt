@@ -1,8 +1,8 @@
 // The hall as a model: what the planner, the checker and the campaign see of it.
 ghost use mathlib.Core.Path.{_≡_};
-ghost use Rattle.own_plant.specs.Jobs.{after, can-install, can-switch2, can-open, can-close, can-put-back1, can-put-back2, can-switch1};
-ghost use Rattle.own_plant.specs.Hall.{hall-meaning, hall-shown};
-ghost use Rattle.own_plant.specs.Rules.{Rules};
+ghost use Rattle.hall.specs.Jobs.{after, can-install, can-switch2, can-open, can-close, can-put-back1, can-put-back2, can-switch1};
+ghost use Rattle.hall.specs.Hall.{hall-meaning, hall-shown};
+ghost use Rattle.hall.specs.Rules.{Rules};
 ghost use Rattle.std.specs.Vec.{made};
 use super::fault::HallFault;
 use super::job::Job;

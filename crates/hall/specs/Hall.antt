@@ -9,15 +9,15 @@ use Rattle.std.specs.declared.result.Result.{Result}
 use Rattle.std.specs.declared.result.Result.the-variants.{Ok, Err}
 use Rattle.model.specs.Meaning.{Meaning}
 use Rattle.model.specs.Shown.{Shown}
-use Rattle.own_plant.specs.Jobs.{job, after}
-use Rattle.own_plant.specs.Plant.{is-state, at-goal, on-network, serves-new, is-open}
-use Rattle.own_plant.specs.declared.fault.HallFault.{HallFault}
-use Rattle.own_plant.specs.declared.fault.HallFault.the-variants.{NoSuchJob, NotAState}
-use Rattle.own_plant.specs.declared.job.Job.{Job}
-use Rattle.own_plant.specs.declared.plant.Plant.{Plant}
-use Rattle.own_plant.specs.declared.plant.Store.the-variants.{OldRoot}
-use Rattle.own_plant.specs.declared.plant.Chain.the-variants.{Old, New}
-use Rattle.own_plant.specs.declared.plant.Window.the-variants.{Closed}
+use Rattle.hall.specs.Jobs.{job, after}
+use Rattle.hall.specs.Plant.{is-state, at-goal, on-network, serves-new, is-open}
+use Rattle.hall.specs.declared.fault.HallFault.{HallFault}
+use Rattle.hall.specs.declared.fault.HallFault.the-variants.{NoSuchJob, NotAState}
+use Rattle.hall.specs.declared.job.Job.{Job}
+use Rattle.hall.specs.declared.plant.Plant.{Plant}
+use Rattle.hall.specs.declared.plant.Store.the-variants.{OldRoot}
+use Rattle.hall.specs.declared.plant.Chain.the-variants.{Old, New}
+use Rattle.hall.specs.declared.plant.Window.the-variants.{Closed}
 
 abbrev pub untouched : Plant
 untouched = record { press1 = OldRoot; press2 = OldRoot; press3 = OldRoot; gateway1 = Old; gateway2 = Old; window = Closed }

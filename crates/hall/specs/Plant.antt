@@ -1,12 +1,12 @@
 -- When a plant is in a state that it may be in, and when the rollover is done.
 use mathlib.Core.Bool.{Bool, true, false, not, _&&_, _||_}
-use Rattle.own_plant.specs.declared.plant.Plant.{Plant}
-use Rattle.own_plant.specs.declared.plant.Store.{Store}
-use Rattle.own_plant.specs.declared.plant.Store.the-variants.{OldRoot, BothRoots}
-use Rattle.own_plant.specs.declared.plant.Chain.{Chain}
-use Rattle.own_plant.specs.declared.plant.Chain.the-variants.{Old, New}
-use Rattle.own_plant.specs.declared.plant.Window.{Window}
-use Rattle.own_plant.specs.declared.plant.Window.the-variants.{Closed, Open}
+use Rattle.hall.specs.declared.plant.Plant.{Plant}
+use Rattle.hall.specs.declared.plant.Store.{Store}
+use Rattle.hall.specs.declared.plant.Store.the-variants.{OldRoot, BothRoots}
+use Rattle.hall.specs.declared.plant.Chain.{Chain}
+use Rattle.hall.specs.declared.plant.Chain.the-variants.{Old, New}
+use Rattle.hall.specs.declared.plant.Window.{Window}
+use Rattle.hall.specs.declared.plant.Window.the-variants.{Closed, Open}
 
 abbrev pub serves-new : Chain → Bool
 serves-new Old = false

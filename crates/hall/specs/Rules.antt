@@ -1,8 +1,8 @@
 -- The rules of the hall, which every job keeps: what they say does not depend on how the jobs are written.
 use mathlib.Core.Path.{_≡_}
 use mathlib.Core.Bool.{true, false}
-use Rattle.own_plant.specs.Plant.{on-network, is-open}
-use Rattle.own_plant.specs.declared.plant.Plant.{Plant}
+use Rattle.hall.specs.Plant.{on-network, is-open}
+use Rattle.hall.specs.declared.plant.Plant.{Plant}
 
 pub record Rules (before after : Plant) : Type 0 where
   -- nothing is installed on a press that is off the network

@@ -1,5 +1,5 @@
 // Why a job is not done.
-ghost use Rattle.own_plant.specs.Number.{number};
+ghost use Rattle.hall.specs.Number.{number};
 use model::Cause;
 use std::fmt;
 
