@@ -1,19 +1,15 @@
--- An answer of checking that says something true accepts wherever it should. Assumes nothing.
+-- What a walk along a list of actions comes to. Assumes nothing.
 use mathlib.Core.List.{List, [], _∷_, _++_, append-nil}
 use mathlib.Core.Path.{_≡_, refl, sym, ap, subst, _∙_}
-use mathlib.Core.Bool.{true, false}
 use Prim.Native.Nat.{ℕ, _+_, _≤_, _<_}
 use native.Mathlib.Omega.{arith}
 use lib.ListN.{length, getD, take, drop, length-take}
 use Rattle.std.proofs.shelf.Lists.{take-append-drop, take-more, take-all, drop-more}
-use Rattle.std.specs.declared.result.Result.{Result}
 use Rattle.std.specs.declared.result.Result.the-variants.{Ok, Err}
 use Rattle.model.specs.Meaning.{Meaning}
-use Rattle.planner.specs.Checked.{Checked, Says, Stops, FallsShort}
+use Rattle.planner.specs.Checked.{Stops, Arrives, Broken}
 use Rattle.planner.specs.Leads.{Leads, Reaches}
-use Rattle.planner.specs.declared.fault.CheckFault.{CheckFault}
-use Rattle.planner.specs.declared.fault.CheckFault.the-variants.{NotAState, Step, Short}
-use Rattle.planner.proofs.Ways.{ok-not-err, true-not-false, leads-rest, reaches-push}
+use Rattle.planner.proofs.Ways.{ok-not-err, leads-reached, leads-rest, reaches-push}
 
 module _ {S F : Type 0} (m : Meaning S F) (s : S) (xs : List ℕ) where
   stops-not-leads : (place : ℕ) (f : F) → Stops m s xs place f → Leads m s xs → ⊥
@@ -21,18 +17,8 @@ module _ {S F : Type 0} (m : Meaning S F) (s : S) (xs : List ℕ) where
       let rest = leads-rest m s (h .at) (h .before) (h .action ∷ h .after) (h .reaches) (subst (λ ys. Leads m s ys) (h .splits) l) in
       ok-not-err (rest .1) (h .cause)
 
-  short-not-leads : FallsShort m s xs → Leads m s xs → ⊥
-  short-not-leads h l =
-      true-not-false (leads-rest m s (h .at) xs [] (h .reaches) (subst (λ ys. Leads m s ys) (sym (append-nil xs)) l)) (h .unmet)
-
-  pub checked : (r : Result ℕ (CheckFault F)) → Says m s xs r → Checked m s xs r
-  checked (Ok n) h = record { says = h; accepts = λ _ _. ap Ok (h .2) }
-  checked (Err NotAState) h = record { says = h; accepts = λ good _. absurd (true-not-false good h) }
-  checked (Err (Step place f)) h = record { says = h; accepts = λ _ l. absurd (stops-not-leads place f (h .1) l) }
-  checked (Err (Short n)) h = record { says = h; accepts = λ _ l. absurd (short-not-leads (h .1) l) }
-
   -- the check has come to place i, and the action there gets a cause
-  pub stops-here : (i : ℕ) (at : S) (f : F) → i < length xs → Reaches m s (take i xs) at → m .step at (getD xs i 0) ≡ Err f → Stops m s xs (i + 1) f
+  stops-here : (i : ℕ) (at : S) (f : F) → i < length xs → Reaches m s (take i xs) at → m .step at (getD xs i 0) ≡ Err f → Stops m s xs (i + 1) f
   stops-here i at f h reached cause =
       record {
         before = take i xs;
@@ -50,5 +36,17 @@ module _ {S F : Type 0} (m : Meaning S F) (s : S) (xs : List ℕ) where
   reaches-next i u t h reached e =
       subst (λ ys. Reaches m s ys t) (sym (take-more xs i 0 h)) (reaches-push m s u t (take i xs) (getD xs i 0) reached e)
 
-  pub reaches-end : (i : ℕ) (t : S) → length xs ≤ i → Reaches m s (take i xs) t → Reaches m s xs t
-  reaches-end i t h reached = subst (λ ys. Reaches m s ys t) (take-all i xs h) reached
+  pub broken : (i : ℕ) (at : S) (f : F) → i < length xs → Reaches m s (take i xs) at → m .step at (getD xs i 0) ≡ Err f → Broken m s xs (i + 1) f
+  broken i at f h reached cause =
+      let stops = stops-here i at f h reached cause in
+      record { stops = stops; never = stops-not-leads (i + 1) f stops }
+
+  -- the list is at its end
+  pub arrives : (i : ℕ) (t : S) → length xs ≤ i → Reaches m s (take i xs) t → Arrives m s xs t
+  arrives i t h reached =
+      let whole = subst (λ ys. Reaches m s ys t) (take-all i xs h) reached in
+      record {
+        reaches = whole;
+        leads = leads-reached m s t xs whole;
+        only = λ l. leads-rest m s t xs [] whole (subst (λ ys. Leads m s ys) (sym (append-nil xs)) l);
+      }

@@ -28,6 +28,20 @@ pub record FallsShort {S F : Type 0} (m : Meaning S F) (s : S) (xs : List ℕ) :
   pub reaches : Reaches m s xs at
   pub unmet : m .at-goal at ≡ false
 
+-- what a walk along the whole list comes to
+pub record Arrives {S F : Type 0} (m : Meaning S F) (s : S) (xs : List ℕ) (t : S) : Type 0 where
+  pub reaches : Reaches m s xs t
+  pub leads : m .at-goal t ≡ true → Leads m s xs
+  pub only : Leads m s xs → m .at-goal t ≡ true
+
+pub record Broken {S F : Type 0} (m : Meaning S F) (s : S) (xs : List ℕ) (place : ℕ) (f : F) : Type 0 where
+  pub stops : Stops m s xs place f
+  pub never : Leads m s xs → ⊥
+
+abbrev pub Walked : {S F : Type 0} → Meaning S F → S → List ℕ → Result S (ℕ × F) → Type 0
+Walked m s xs (Ok t) = Arrives m s xs t
+Walked m s xs (Err e) = Broken m s xs (e .0) (e .1)
+
 -- what each answer says
 abbrev pub Says : {S F : Type 0} → Meaning S F → S → List ℕ → Result ℕ (CheckFault F) → Type 0
 Says m s xs (Ok n) = (m .is-state s ≡ true) × Leads m s xs × (n ≡ length xs)

@@ -1,5 +1,5 @@
 // Checking a list of actions against a model.
-ghost use Rattle.planner.specs.Checked.{Checked};
+ghost use Rattle.planner.specs.Checked.{Checked, Walked};
 use super::CheckFault;
 use model::Model;
 
@@ -15,21 +15,33 @@ pub fn check<M: Model>(
     if !model.is_state(state) {
         return Err(CheckFault::NotAState);
     }
+    let length = actions.len();
+    match walk(model, state, actions) {
+        Ok(end) => {
+            if model.at_goal(end) {
+                Ok(length)
+            } else {
+                Err(CheckFault::Short { length })
+            }
+        }
+        Err((place, cause)) => Err(CheckFault::Step { place, cause }),
+    }
+}
+
+// The state that the actions reach, or the place of the first that is not allowed and its cause.
+fn walk<M: Model>(
+    model: &M,
+    state: M::State,
+    actions: &[u16],
+) -> Result<M::State, (usize, M::Fault)>
+    ensures { λ r. ⌜ Walked (M·Model .meaning (now (model .entry))) state (now (actions .entry)) r ⌝ }
+{
     let mut at = state;
     for (i, action) in actions.iter().enumerate() {
         match model.step(at, *action) {
             Ok(next) => at = next,
-            Err(cause) => return Err(CheckFault::Step {
-                place: i + 1,
-                cause,
-            }),
+            Err(cause) => return Err((i + 1, cause)),
         }
     }
-    if model.at_goal(at) {
-        Ok(actions.len())
-    } else {
-        Err(CheckFault::Short {
-            length: actions.len(),
-        })
-    }
+    Ok(at)
 }

@@ -5,8 +5,9 @@ ghost use mathlib.Core.Path.{_≡_};
 ghost use mathlib.Core.List.{List, [], _∷_, _++_};
 ghost use Prim.Native.Nat.{ℕ, _+_, _≤_, _<_};
 ghost use lib.ListN.{length};
-ghost use Rattle.planner.specs.Planned.{Planned, bound-read};
+ghost use Rattle.planner.specs.Planned.{Planned, Ready, bound-read};
 ghost use Rattle.planner.specs.Search.{Progress, Turned, Tries, Backs, Explored, last-or};
+ghost use Rattle.std.specs.declared.result.Result.the-variants.{Ok};
 ghost use Rattle.trail.specs.Held.{held, room, Kept};
 use super::PlanFault;
 use model::Model;
@@ -44,14 +45,28 @@ pub fn plan<M: Model>(
     if actions.room() < most as usize {
         return Err(PlanFault::FewActions);
     }
+    Ok(deepen(model, state, most, states, actions))
+}
+
+// Goes through the lists of no action, of one, of two .. up to `most`.
+fn deepen<M: Model>(
+    model: &M,
+    state: M::State,
+    most: u16,
+    states: &mut Trail<M::State>,
+    actions: &mut Trail<u16>,
+) -> PlanAnswer
+    requires { ⌜ Ready (M·Model .meaning (now model)) state most (now states) (now actions) ⌝ }
+    ensures { λ r. ⌜ Planned (M·Model .meaning (now (model .entry))) state most (now (states .entry)) (now (actions .entry)) (Ok r) (now (states .exit)) (now (actions .exit)) ⌝ }
+{
     for depth in 0..=most {
         if explore(model, state, depth, states, actions) {
-            return Ok(PlanAnswer::Steps(depth));
+            return PlanAnswer::Steps(depth);
         }
     }
     states.clear();
     actions.clear();
-    Ok(PlanAnswer::NoWay)
+    PlanAnswer::NoWay
 }
 
 // What one turn of the search comes to.

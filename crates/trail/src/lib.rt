@@ -1,7 +1,8 @@
 // A trail: a list of elements over places that the caller lends. It adds and takes at its end, and owns no memory.
 ghost use mathlib.Core.Path.{_≡_};
-ghost use Prim.Native.Nat.{_<_};
-ghost use lib.ListN.{length, getD, set, take};
+ghost use lib.ListN.{length, take};
+ghost use Rattle.trail.specs.Item.{Item};
+ghost use Rattle.trail.specs.Places.{Puts, Last};
 
 mod ends;
 mod fault;
@@ -13,7 +14,7 @@ pub use fault::TrailFaultCause;
 pub use fault::TrailFaultDebug;
 pub use fault::TrailFaultPartialEq;
 
-// The first `len` of the lent places hold the elements.
+// The first `len` of the lent places hold the elements. A length beyond the places counts as all of them.
 #[derive(Drop)]
 pub struct Trail<'a, T> {
     places: &'a mut [T],
@@ -30,7 +31,7 @@ fn count<T>(places: &mut [T]) -> usize
     places.len()
 }
 
-// How many places are in use where `len` should be: never more than there are.
+// How many places are in use.
 fn used<T>(places: &mut [T], len: usize) -> usize
     ensures value { λ r. ⌜ r ≡ length (take len (now (places .entry))) ⌝ }
     ensures same { λ _. ⌜ now (places .exit) ≡ now (places .entry) ⌝ }
@@ -38,17 +39,38 @@ fn used<T>(places: &mut [T], len: usize) -> usize
     len.min(places.len())
 }
 
-fn read<T: Copy>(places: &mut [T], at: usize) -> T
-    requires { ⌜ at < length (now places) ⌝ }
-    ensures value { λ r. ⌜ r ≡ getD (now (places .entry)) at r ⌝ }
+// The element at a place counted from 0.
+fn item<T: Copy>(places: &mut [T], len: usize, at: usize) -> Option<T>
+    ensures value { λ r. ⌜ Item (take len (now (places .entry))) at r ⌝ }
     ensures same { λ _. ⌜ now (places .exit) ≡ now (places .entry) ⌝ }
 {
-    places[at]
+    if at < len && at < places.len() {
+        Some(places[at])
+    } else {
+        None
+    }
 }
 
-fn write<T: Copy>(places: &mut [T], at: usize, x: T)
-    requires { ⌜ at < length (now places) ⌝ }
-    ensures { λ _. ⌜ now (places .exit) ≡ set (now (places .entry)) at x ⌝ }
+// The last element, and how many stand before it.
+fn last<T: Copy>(places: &mut [T], len: usize) -> Option<(usize, T)>
+    ensures value { λ r. ⌜ Last (now (places .entry)) len r ⌝ }
+    ensures same { λ _. ⌜ now (places .exit) ≡ now (places .entry) ⌝ }
 {
-    places[at] = x;
+    let used = len.min(places.len());
+    if used == 0 {
+        return None;
+    }
+    Some((used - 1, places[used - 1]))
+}
+
+// Writes an element behind the last, and answers how many there are then; nothing where no place is left.
+fn put<T: Copy>(places: &mut [T], len: usize, x: T) -> Option<usize>
+    ensures { λ r. ⌜ Puts (now (places .entry)) len x r (now (places .exit)) ⌝ }
+{
+    let used = len.min(places.len());
+    if used == places.len() {
+        return None;
+    }
+    places[used] = x;
+    Some(used + 1)
 }

@@ -1,12 +1,11 @@
 // What a trail tells of itself. Nothing that is asked changes it.
 ghost use mathlib.Core.Path.{_≡_};
-ghost use Prim.Native.Nat.{_<_};
-ghost use lib.ListN.{length, getD};
+ghost use lib.ListN.{length};
 ghost use Rattle.trail.specs.Held.{held, room};
 ghost use Rattle.trail.specs.Item.{Item};
 use super::Trail;
 use super::count;
-use super::read;
+use super::item;
 use super::used;
 
 impl<'a, T: Copy> Trail<'a, T> {
@@ -33,11 +32,6 @@ impl<'a, T: Copy> Trail<'a, T> {
         ensures same { λ _. ⌜ now (self .exit) ≡ now (self .entry) ⌝ }
     {
         let len = self.len;
-        let len = used(self.places, len);
-        if at < len {
-            Some(read(self.places, at))
-        } else {
-            None
-        }
+        item(self.places, len, at)
     }
 }

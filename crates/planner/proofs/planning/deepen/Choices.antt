@@ -3,7 +3,7 @@ use Prim.Native.Nat.{ℕ, _+_, _<_}
 use lib.ListN.{length}
 use Rattle.trail.specs.Held.{Kept}
 use Rattle.planner.specs.Leads.{Leads}
-use Rattle.planner.proofs.planning.plan.Given as given
+use Rattle.planner.proofs.planning.deepen.Given as given
 
 abbrev pub Inv-loop-depth : given.InvT-loop-depth
 Inv-loop-depth g l =
