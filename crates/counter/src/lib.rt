@@ -57,7 +57,7 @@ pub impl Model for Counter as CounterModel {
     }
 
     fn at_goal(&self, s: u16) -> bool {
-        s <= TOP && s == self.goal
+        self.is_state(s) && s == self.goal
     }
 
     fn step(&self, s: u16, action: u16) -> Result<u16, CounterFault> {
@@ -82,7 +82,7 @@ pub impl ShownModel for Counter as CounterShown {
     }
 
     fn number(&self, s: u16, place: u16) -> u16 {
-        if s <= TOP && place == 1 { s } else { 0 }
+        if self.is_state(s) && place == 1 { s } else { 0 }
     }
 }
 

@@ -13,6 +13,11 @@ use super::plant::Window;
 use model::Model;
 use model::ShownModel;
 
+// How many jobs there are, and how many numbers describe the hall.
+const JOBS: u16 = 9;
+
+const PLACES: u16 = 9;
+
 #[derive(Clone, Copy)]
 pub struct Hall;
 
@@ -164,7 +169,7 @@ pub impl Model for Hall as HallModel {
     ghost meaning = { λ _. hall-meaning };
 
     fn actions(&self) -> u16 {
-        9
+        JOBS
     }
 
     // Every press trusts the old root alone, and both gateways serve the old chain.
@@ -207,7 +212,7 @@ pub impl ShownModel for Hall as HallShown {
     ghost shown = { λ _. hall-shown };
 
     fn places(&self) -> u16 {
-        9
+        PLACES
     }
 
     fn number(&self, s: Plant, place: u16) -> u16 {
