@@ -4,6 +4,7 @@
 ghost use mathlib.Core.Path.{_≡_};
 ghost use mathlib.Core.List.{List, [], _∷_, _++_};
 ghost use Prim.Native.Nat.{ℕ, _+_, _≤_, _<_};
+ghost use lib.Dec.{ltb};
 ghost use lib.ListN.{length};
 ghost use Rattle.planner.specs.Planned.{Planned, Ready, bound-read};
 ghost use Rattle.planner.specs.Search.{Progress, Turned, Tries, Backs, Explored, last-or};
@@ -129,6 +130,13 @@ fn back<T: Copy>(states: &mut Trail<T>, actions: &mut Trail<u16>) -> Turn
     }
 }
 
+// Whether every action was tried where `next` comes next.
+fn all_tried<M: Model>(model: &M, next: u16) -> bool
+    ensures { λ r. ⌜ r ≡ ltb (M·Model .meaning (now (model .entry)) .actions) next ⌝ }
+{
+    next > model.actions()
+}
+
 // One turn: tests a whole path, tries the next action, or turns back.
 fn take_turn<M: Model>(
     model: &M,
@@ -152,7 +160,7 @@ fn take_turn<M: Model>(
         }
         return back(states, actions);
     }
-    if next > model.actions() {
+    if all_tried(model, next) {
         return back(states, actions);
     }
     forward(model, at, next, states, actions)
