@@ -10,7 +10,7 @@ use Rattle.std.specs.declared.result.Result.the-variants.{Ok, Err}
 use Rattle.model.specs.Meaning.{Meaning}
 use Rattle.model.specs.Shown.{Shown}
 use Rattle.hall.specs.Jobs.{job, after}
-use Rattle.hall.specs.Plant.{is-state, at-goal, on-network, serves-new, is-open}
+use Rattle.hall.specs.Plant.{is-state, at-goal, trusts, serves-new, is-open}
 use Rattle.hall.specs.declared.fault.HallFault.{HallFault}
 use Rattle.hall.specs.declared.fault.HallFault.the-variants.{NoSuchJob, NotAState}
 use Rattle.hall.specs.declared.job.Job.{Job}
@@ -33,15 +33,15 @@ hall-meaning = record { actions = 9; start = untouched; is-state = is-state; at-
 abbrev pub facts : Plant → List Bool
 facts p =
     false
-    ∷ on-network (p .press1) New
-    ∷ on-network (p .press2) New
-    ∷ on-network (p .press3) New
+    ∷ trusts (p .press1) New
+    ∷ trusts (p .press2) New
+    ∷ trusts (p .press3) New
     ∷ serves-new (p .gateway1)
     ∷ serves-new (p .gateway2)
     ∷ is-open (p .window)
-    ∷ on-network (p .press1) (p .gateway1)
-    ∷ on-network (p .press2) (p .gateway1)
-    ∷ on-network (p .press3) (p .gateway2)
+    ∷ trusts (p .press1) (p .gateway1)
+    ∷ trusts (p .press2) (p .gateway1)
+    ∷ trusts (p .press3) (p .gateway2)
     ∷ []
 
 abbrev pub hall-shown : Shown Plant

@@ -69,18 +69,33 @@ can-put-back2 Old window = Err AlreadyDone
 can-put-back2 New Closed = Err WindowClosed
 can-put-back2 New Open = Ok tt
 
--- the plant as it then stands, where the job can be done
-abbrev pub done : Result (Unit {0}) HallFault → Plant → Result Plant HallFault
-done (Ok x) p = Ok p
-done (Err f) p = Err f
+-- whether a job can be done, or why not
+abbrev pub can-do : Plant → Job → Result (Unit {0}) HallFault
+can-do p Install1 = can-install 1 (p .press1) (p .gateway1)
+can-do p Install2 = can-install 2 (p .press2) (p .gateway1)
+can-do p Install3 = can-install 3 (p .press3) (p .gateway2)
+can-do p Switch1 = can-switch1 (p .gateway1)
+can-do p Switch2 = can-switch2 (p .gateway2) (p .window)
+can-do p OpenWindow = can-open (p .window) (p .gateway1)
+can-do p CloseWindow = can-close (p .window)
+can-do p PutBack1 = can-put-back1 (p .gateway1) (p .window)
+can-do p PutBack2 = can-put-back2 (p .gateway2) (p .window)
+
+-- the plant once a job is done: each changes one thing
+abbrev pub done : Plant → Job → Plant
+done p Install1 = record { press1 = BothRoots; press2 = p .press2; press3 = p .press3; gateway1 = p .gateway1; gateway2 = p .gateway2; window = p .window }
+done p Install2 = record { press1 = p .press1; press2 = BothRoots; press3 = p .press3; gateway1 = p .gateway1; gateway2 = p .gateway2; window = p .window }
+done p Install3 = record { press1 = p .press1; press2 = p .press2; press3 = BothRoots; gateway1 = p .gateway1; gateway2 = p .gateway2; window = p .window }
+done p Switch1 = record { press1 = p .press1; press2 = p .press2; press3 = p .press3; gateway1 = New; gateway2 = p .gateway2; window = p .window }
+done p Switch2 = record { press1 = p .press1; press2 = p .press2; press3 = p .press3; gateway1 = p .gateway1; gateway2 = New; window = p .window }
+done p OpenWindow = record { press1 = p .press1; press2 = p .press2; press3 = p .press3; gateway1 = p .gateway1; gateway2 = p .gateway2; window = Open }
+done p CloseWindow = record { press1 = p .press1; press2 = p .press2; press3 = p .press3; gateway1 = p .gateway1; gateway2 = p .gateway2; window = Closed }
+done p PutBack1 = record { press1 = p .press1; press2 = p .press2; press3 = p .press3; gateway1 = Old; gateway2 = p .gateway2; window = p .window }
+done p PutBack2 = record { press1 = p .press1; press2 = p .press2; press3 = p .press3; gateway1 = p .gateway1; gateway2 = Old; window = p .window }
+
+abbrev pub when : Result (Unit {0}) HallFault → Plant → Result Plant HallFault
+when (Ok x) p = Ok p
+when (Err f) p = Err f
 
 abbrev pub after : Plant → Job → Result Plant HallFault
-after p Install1 = done (can-install 1 (p .press1) (p .gateway1)) (record { press1 = BothRoots; press2 = p .press2; press3 = p .press3; gateway1 = p .gateway1; gateway2 = p .gateway2; window = p .window })
-after p Install2 = done (can-install 2 (p .press2) (p .gateway1)) (record { press1 = p .press1; press2 = BothRoots; press3 = p .press3; gateway1 = p .gateway1; gateway2 = p .gateway2; window = p .window })
-after p Install3 = done (can-install 3 (p .press3) (p .gateway2)) (record { press1 = p .press1; press2 = p .press2; press3 = BothRoots; gateway1 = p .gateway1; gateway2 = p .gateway2; window = p .window })
-after p Switch1 = done (can-switch1 (p .gateway1)) (record { press1 = p .press1; press2 = p .press2; press3 = p .press3; gateway1 = New; gateway2 = p .gateway2; window = p .window })
-after p Switch2 = done (can-switch2 (p .gateway2) (p .window)) (record { press1 = p .press1; press2 = p .press2; press3 = p .press3; gateway1 = p .gateway1; gateway2 = New; window = p .window })
-after p OpenWindow = done (can-open (p .window) (p .gateway1)) (record { press1 = p .press1; press2 = p .press2; press3 = p .press3; gateway1 = p .gateway1; gateway2 = p .gateway2; window = Open })
-after p CloseWindow = done (can-close (p .window)) (record { press1 = p .press1; press2 = p .press2; press3 = p .press3; gateway1 = p .gateway1; gateway2 = p .gateway2; window = Closed })
-after p PutBack1 = done (can-put-back1 (p .gateway1) (p .window)) (record { press1 = p .press1; press2 = p .press2; press3 = p .press3; gateway1 = Old; gateway2 = p .gateway2; window = p .window })
-after p PutBack2 = done (can-put-back2 (p .gateway2) (p .window)) (record { press1 = p .press1; press2 = p .press2; press3 = p .press3; gateway1 = p .gateway1; gateway2 = Old; window = p .window })
+after p j = when (can-do p j) (done p j)

@@ -16,11 +16,11 @@ abbrev pub is-open : Window → Bool
 is-open Closed = false
 is-open Open = true
 
--- a press is on the network where it trusts the chain that its gateway serves
-abbrev pub on-network : Store → Chain → Bool
-on-network store Old = true
-on-network OldRoot New = false
-on-network BothRoots New = true
+-- whether a press trusts a chain; it is on the network where it trusts the one that its gateway serves
+abbrev pub trusts : Store → Chain → Bool
+trusts store Old = true
+trusts OldRoot New = false
+trusts BothRoots New = true
 
 -- the window is open only once gateway 1 serves the new chain
 abbrev pub is-state : Plant → Bool
@@ -31,6 +31,6 @@ at-goal p =
     serves-new (p .gateway1)
     && (serves-new (p .gateway2)
     && (not (is-open (p .window))
-    && (on-network (p .press1) (p .gateway1)
-    && (on-network (p .press2) (p .gateway1)
-    && on-network (p .press3) (p .gateway2)))))
+    && (trusts (p .press1) (p .gateway1)
+    && (trusts (p .press2) (p .gateway1)
+    && trusts (p .press3) (p .gateway2)))))

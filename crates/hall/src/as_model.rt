@@ -1,6 +1,6 @@
-// The hall as a model: what the planner, the checker and the campaign see of it.
+// The hall as a model: what the planner and the checker see of it.
 ghost use mathlib.Core.Path.{_≡_};
-ghost use Rattle.hall.specs.Jobs.{after, can-install, can-switch2, can-open, can-close, can-put-back1, can-put-back2, can-switch1};
+ghost use Rattle.hall.specs.Jobs.{after, can-do, done, can-install, can-switch2, can-open, can-close, can-put-back1, can-put-back2, can-switch1};
 ghost use Rattle.hall.specs.Hall.{hall-meaning, hall-shown};
 ghost use Rattle.hall.specs.Rules.{Rules};
 ghost use Rattle.std.specs.Vec.{made};
@@ -89,76 +89,49 @@ fn can_put_back2(chain: Chain, window: Window) -> Result<(), HallFault>
     }
 }
 
-// How the hall stands after a job, or why the job cannot be done.
+// Whether a job can be done, or why not.
+fn can_do(s: Plant, job: Job) -> Result<(), HallFault>
+    ensures { λ r. ⌜ r ≡ can-do s job ⌝ }
+{
+    match job {
+        Job::Install1 => can_install(1, s.press1, s.gateway1),
+        Job::Install2 => can_install(2, s.press2, s.gateway1),
+        Job::Install3 => can_install(3, s.press3, s.gateway2),
+        Job::Switch1 => can_switch1(s.gateway1),
+        Job::Switch2 => can_switch2(s.gateway2, s.window),
+        Job::OpenWindow => can_open(s.window, s.gateway1),
+        Job::CloseWindow => can_close(s.window),
+        Job::PutBack1 => can_put_back1(s.gateway1, s.window),
+        Job::PutBack2 => can_put_back2(s.gateway2, s.window),
+    }
+}
+
+// How the hall stands once a job is done: each changes one thing.
+fn done(s: Plant, job: Job) -> Plant
+    ensures { λ r. ⌜ r ≡ done s job ⌝ }
+{
+    let mut t = s;
+    match job {
+        Job::Install1 => t.press1 = Store::BothRoots,
+        Job::Install2 => t.press2 = Store::BothRoots,
+        Job::Install3 => t.press3 = Store::BothRoots,
+        Job::Switch1 => t.gateway1 = Chain::New,
+        Job::Switch2 => t.gateway2 = Chain::New,
+        Job::OpenWindow => t.window = Window::Open,
+        Job::CloseWindow => t.window = Window::Closed,
+        Job::PutBack1 => t.gateway1 = Chain::Old,
+        Job::PutBack2 => t.gateway2 = Chain::Old,
+    }
+    t
+}
+
+// What a job comes to.
 fn after(s: Plant, job: Job) -> Result<Plant, HallFault>
     ensures value { λ r. ⌜ r ≡ after s job ⌝ }
     ensures rules { λ r. ⌜ made r (λ t. Rules s t) ⌝ }
 {
-    match job {
-        Job::Install1 => {
-            can_install(1, s.press1, s.gateway1)?;
-            Ok(Plant {
-                press1: Store::BothRoots,
-                ..s
-            })
-        }
-        Job::Install2 => {
-            can_install(2, s.press2, s.gateway1)?;
-            Ok(Plant {
-                press2: Store::BothRoots,
-                ..s
-            })
-        }
-        Job::Install3 => {
-            can_install(3, s.press3, s.gateway2)?;
-            Ok(Plant {
-                press3: Store::BothRoots,
-                ..s
-            })
-        }
-        Job::Switch1 => {
-            can_switch1(s.gateway1)?;
-            Ok(Plant {
-                gateway1: Chain::New,
-                ..s
-            })
-        }
-        Job::Switch2 => {
-            can_switch2(s.gateway2, s.window)?;
-            Ok(Plant {
-                gateway2: Chain::New,
-                ..s
-            })
-        }
-        Job::OpenWindow => {
-            can_open(s.window, s.gateway1)?;
-            Ok(Plant {
-                window: Window::Open,
-                ..s
-            })
-        }
-        Job::CloseWindow => {
-            can_close(s.window)?;
-            Ok(Plant {
-                window: Window::Closed,
-                ..s
-            })
-        }
-        Job::PutBack1 => {
-            can_put_back1(s.gateway1, s.window)?;
-            Ok(Plant {
-                gateway1: Chain::Old,
-                ..s
-            })
-        }
-        Job::PutBack2 => {
-            can_put_back2(s.gateway2, s.window)?;
-            Ok(Plant {
-                gateway2: Chain::Old,
-                ..s
-            })
-        }
-    }
+    can_do(s, job)?;
+    Ok(done(s, job))
 }
 
 pub impl Model for Hall as HallModel {

@@ -1,6 +1,6 @@
 // Where the plant stands.
 ghost use mathlib.Core.Path.{_≡_};
-ghost use Rattle.hall.specs.Plant.{is-state, at-goal, on-network, serves-new, is-open};
+ghost use Rattle.hall.specs.Plant.{is-state, at-goal, trusts, serves-new, is-open};
 
 // Which roots a press trusts.
 #[derive(Clone, Copy)]
@@ -53,7 +53,7 @@ impl Window {
 impl Store {
     // A press that does not trust the chain of its gateway is off the network.
     pub fn trusts(self, chain: Chain) -> bool
-        ensures { λ r. ⌜ r ≡ on-network self chain ⌝ }
+        ensures { λ r. ⌜ r ≡ trusts self chain ⌝ }
     {
         match (self, chain) {
             (Store::OldRoot, Chain::New) => false,

@@ -24,8 +24,11 @@ Refuses (Err f) = Unit {0}
 pub record Lawful {S F : Type 0} (m : Meaning S F) : Type 0 where
   pub few : m .actions ≤ 200
   pub start-state : m .is-state (m .start) ≡ true
+  -- every next state is a state
   pub step-state : (s : S) (a : ℕ) (t : S) → m .step s a ≡ Ok t → m .is-state t ≡ true
+  -- a value that is not a state does not meet the goal, and no action is allowed in it
   pub goal-state : (s : S) → m .is-state s ≡ false → m .at-goal s ≡ false
   pub no-state : (s : S) (a : ℕ) → m .is-state s ≡ false → Refuses (m .step s a)
+  -- a number below the first action, or above the last, is no action
   pub below : (s : S) → Refuses (m .step s 0)
   pub above : (s : S) (a : ℕ) → m .actions < a → Refuses (m .step s a)

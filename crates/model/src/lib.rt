@@ -1,4 +1,4 @@
-// The model interface: what a plant is to the planner, the checker and the campaign.
+// The model interface: what a plant is to everything that plans, checks or follows it.
 ghost use mathlib.Core.Path.{_≡_};
 ghost use Prim.Native.Nat.{ℕ};
 ghost use Rattle.model.specs.Meaning.{Meaning, Lawful};

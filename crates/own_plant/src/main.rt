@@ -1,4 +1,6 @@
 // A customer's own plant under the planner: plans its rollover, checks lists of actions, and prints what it did.
+ghost use Rattle.own_plant.specs.Lent.{Lent};
+ghost use Rattle.planner.specs.Planned.{bound-read};
 use hall::Hall;
 use hall::HallFault;
 use hall::HallFaultCause;
@@ -26,6 +28,15 @@ use trail::Trail;
 const STATES: usize = 25;
 
 const ACTIONS: usize = 24;
+
+fn print_jobs(rt: &LibcRuntime, hall: &Hall) -> io::Result<()> {
+    for action in 1..=hall.actions() {
+        if let Some(job) = Job::of(action) {
+            println!(rt, "job {action}: {job}")?;
+        }
+    }
+    Ok(())
+}
 
 fn print_numbers(rt: &LibcRuntime, hall: &Hall, s: Plant) -> io::Result<()> {
     for place in 1..=hall.places() {
@@ -90,10 +101,32 @@ fn print_check(rt: &LibcRuntime, hall: &Hall, s: Plant, actions: &[u16]) -> io::
 fn print_refusal(rt: &LibcRuntime, fault: PlanFault) -> io::Result<()> {
     let number = fault.number();
     match fault {
-        PlanFault::NotAState => println!(rt, "refused, {number}: the hall cannot stand like this"),
+        PlanFault::NotAState => {
+            let cause = HallFault::NotAState;
+            println!(rt, "refused, {number}: {cause}")
+        }
         PlanFault::FewStates => println!(rt, "refused, {number}: too few places for states"),
         PlanFault::FewActions => println!(rt, "refused, {number}: too few places for actions"),
     }
+}
+
+// Plans over lent slices. Once the trails are gone, the slices hold what the trails held.
+fn plan_over(
+    hall: &Hall,
+    s: Plant,
+    bound: u16,
+    states: &mut [Plant],
+    actions: &mut [u16],
+) -> Result<PlanAnswer, PlanFault>
+    ensures { λ r. ⌜ Lent s (bound-read bound) r (now (states .entry)) (now (states .exit)) (now (actions .entry)) (now (actions .exit)) ⌝ }
+{
+    plan(
+        hall,
+        s,
+        bound,
+        &mut Trail::new(states),
+        &mut Trail::new(actions),
+    )
 }
 
 // Plans from `s` over the lent places, prints the answer, and checks a plan that was found.
@@ -106,14 +139,7 @@ fn print_planning(
     actions: &mut [u16],
 ) -> io::Result<()> {
     print!(rt, "plan within {bound} steps: ")?;
-    let answer = plan(
-        hall,
-        s,
-        bound,
-        &mut Trail::new(&mut *states),
-        &mut Trail::new(&mut *actions),
-    );
-    match answer {
+    match plan_over(hall, s, bound, states, actions) {
         Ok(PlanAnswer::Steps(steps)) => {
             println!(rt, "{steps} steps")?;
             let list = &actions[0..steps as usize];
@@ -136,6 +162,17 @@ fn print_answers(rt: &LibcRuntime, hall: &Hall) -> io::Result<()> {
     print_check(rt, hall, start, &[1, 2, 4])
 }
 
+// Each cause of the hall, met by a list of jobs that breaks off.
+fn print_causes(rt: &LibcRuntime, hall: &Hall) -> io::Result<()> {
+    let start = hall.start();
+    print_check(rt, hall, start, &[1, 1])?;
+    print_check(rt, hall, start, &[4, 9])?;
+    print_check(rt, hall, start, &[4, 5])?;
+    print_check(rt, hall, start, &[4, 6, 8])?;
+    print_check(rt, hall, start, &[1, 6])?;
+    print_check(rt, hall, start, &[10])
+}
+
 // What is refused: a value that is not a state, and one place less than a plan of 24 actions needs.
 fn print_refusals(rt: &LibcRuntime, hall: &Hall) -> io::Result<()> {
     let start = hall.start();
@@ -154,6 +191,7 @@ fn print_refusals(rt: &LibcRuntime, hall: &Hall) -> io::Result<()> {
 fn main(rt: LibcRuntime) -> io::Result<()> {
     let hall = Hall;
     println!(rt, "Rolling a hall over to its new certificate chain.")?;
+    print_jobs(&rt, &hall)?;
     println!(
         rt,
         "Shown, 1 for yes: presses 1 to 3 trust the new root, gateways 1 and 2 serve the new chain,"
@@ -163,5 +201,6 @@ fn main(rt: LibcRuntime) -> io::Result<()> {
         "the maintenance window is open, presses 1 to 3 are on the network."
     )?;
     print_answers(&rt, &hall)?;
+    print_causes(&rt, &hall)?;
     print_refusals(&rt, &hall)
 }

@@ -7,8 +7,9 @@ use lib.ListN.{length, getD, take, drop, length-take}
 use Rattle.std.proofs.shelf.Lists.{take-append-drop, take-more, take-all, drop-more}
 use Rattle.std.specs.declared.result.Result.the-variants.{Ok, Err}
 use Rattle.model.specs.Meaning.{Meaning}
-use Rattle.planner.specs.Checked.{Stops, Arrives, Broken}
+use Rattle.planner.specs.Checked.{Stops}
 use Rattle.planner.specs.Leads.{Leads, Reaches}
+use Rattle.planner.specs.Walked.{Arrives, Broken}
 use Rattle.planner.proofs.Ways.{ok-not-err, leads-reached, leads-rest, reaches-push}
 
 module _ {S F : Type 0} (m : Meaning S F) (s : S) (xs : List ℕ) where

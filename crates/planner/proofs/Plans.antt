@@ -8,11 +8,11 @@ use lib.ListN.{length}
 use Rattle.std.specs.declared.result.Result.{Result}
 use Rattle.std.specs.declared.result.Result.the-variants.{Ok, Err}
 use Rattle.model.specs.Meaning.{Meaning}
-use Rattle.trail.specs.Held.{held}
+use Rattle.trail.specs.Held.{held, KeptFrom}
 use Rattle.trail.specs.declared.Trail.{Trail}
-use Rattle.planner.specs.Leads.{Leads, NoWay, Distance}
-use Rattle.planner.specs.Planned.{Best, Ready, Says, Planned}
-use Rattle.planner.specs.Search.{First, NoneOf}
+use Rattle.planner.specs.Leads.{Leads, NoWay, Distance, First}
+use Rattle.planner.specs.Planned.{Best, Ready, PlanSays, Planned}
+use Rattle.planner.specs.Search.{NoneOf}
 use Rattle.planner.specs.declared.fault.PlanFault.{PlanFault}
 use Rattle.planner.specs.declared.fault.PlanFault.the-variants.{NotAState, FewStates, FewActions}
 use Rattle.planner.specs.declared.planning.PlanAnswer.{PlanAnswer}
@@ -35,10 +35,7 @@ module _ {S F : Type 0} (m : Meaning S F) (s : S) where
       record {
         within = h;
         distance = record { reached = (path, f .counted, f .leads); least = not-fewer k below };
-        counted = f .counted;
-        leads = f .leads;
-        first = f .first;
-        passes = f .passes;
+        first = f;
       }
 
   same-distance : (d e : ℕ) → Distance m s d → Distance m s e → d ≡ e
@@ -50,18 +47,28 @@ module _ {S F : Type 0} (m : Meaning S F) (s : S) where
   way-within : (r d : ℕ) → Distance m s d → d ≤ r → NoWay m s r → ⊥
   way-within r d p h none = let x = p .reached in none (x .0) (omega (arith, x .1)) (x .2)
 
-  pub planned : (r : ℕ) (t : Trail S) (u : Trail ℕ) (a : Result PlanAnswer PlanFault) (t′ : Trail S) (u′ : Trail ℕ) → Says m s r t u a t′ u′ → Planned m s r t u a t′ u′
-  planned r t u (Ok (answers.Steps d)) t′ u′ h =
+  refused-unready : (r : ℕ) (t : Trail S) (u : Trail ℕ) (f : PlanFault) (t′ : Trail S) (u′ : Trail ℕ) → PlanSays m s r t u (Err f) t′ u′ → Ready m s r t u → ⊥
+  refused-unready r t u NotAState t′ u′ h q = true-not-false (q .state) (h .0)
+  refused-unready r t u FewStates t′ u′ h q = omega (arith, q .states-room)
+  refused-unready r t u FewActions t′ u′ h q = omega (arith, q .actions-room)
+
+  pub planned : (r : ℕ) (t : Trail S) (u : Trail ℕ) (a : Result PlanAnswer PlanFault) (t′ : Trail S) (u′ : Trail ℕ) → PlanSays m s r t u a t′ u′ → KeptFrom (r + 1) t t′ → KeptFrom r u u′ → Planned m s r t u a t′ u′
+  planned r t u (Ok (answers.Steps d)) t′ u′ h ts us =
       record {
         says = h;
+        states-kept = ts;
+        actions-kept = us;
         no-way = λ _ none. absurd (way-within r d (h .1 .distance) (h .1 .within) none);
         steps = λ e _ p _. ap (λ n. Ok (answers.Steps n)) (same-distance d e (h .1 .distance) p);
       }
-  planned r t u (Ok answers.NoWay) t′ u′ h =
-      record { says = h; no-way = λ _ _. refl; steps = λ d _ p w. absurd (way-within r d p w (h .1)) }
-  planned r t u (Err NotAState) t′ u′ h =
-      record { says = h; no-way = λ q _. absurd (true-not-false (q .state) (h .0)); steps = λ d q _ _. absurd (true-not-false (q .state) (h .0)) }
-  planned r t u (Err FewStates) t′ u′ h =
-      record { says = h; no-way = λ q _. absurd (omega (arith, q .states-room)); steps = λ d q _ _. absurd (omega (arith, q .states-room)) }
-  planned r t u (Err FewActions) t′ u′ h =
-      record { says = h; no-way = λ q _. absurd (omega (arith, q .actions-room)); steps = λ d q _ _. absurd (omega (arith, q .actions-room)) }
+  planned r t u (Ok answers.NoWay) t′ u′ h ts us =
+      record {
+        says = h;
+        states-kept = ts;
+        actions-kept = us;
+        no-way = λ _ _. refl;
+        steps = λ d _ p w. absurd (way-within r d p w (h .1));
+      }
+  planned r t u (Err f) t′ u′ h ts us =
+      let none = λ (q : Ready m s r t u). refused-unready r t u f t′ u′ h q in
+      record { says = h; states-kept = ts; actions-kept = us; no-way = λ q _. absurd (none q); steps = λ d q _ _. absurd (none q) }

@@ -11,8 +11,8 @@ use Rattle.std.proofs.shelf.Lists.{nil-from-length}
 use Rattle.std.specs.declared.result.Result.{Result}
 use Rattle.std.specs.declared.result.Result.the-variants.{Ok, Err}
 use Rattle.model.specs.Meaning.{Meaning, Lawful}
-use Rattle.planner.specs.Leads.{Leads, Reaches, Passes, NotAfter}
-use Rattle.planner.specs.Search.{Tried, Progress, First, NoneOf, Tries}
+use Rattle.planner.specs.Leads.{Leads, Reaches, Passes, NotAfter, First}
+use Rattle.planner.specs.Search.{Tried, Progress, NoneOf, Tries}
 use Rattle.planner.specs.declared.planning.Turn.the-variants.{Next}
 use Rattle.planner.proofs.Ways.{ok-not-err, true-not-false, allowed-within, allowed-positive, leads-rest, leads-reached, passes-last, passes-push, passes-pop, passes-step, passes-length}
 

@@ -9,10 +9,10 @@ use Rattle.std.specs.declared.result.Result.{Result}
 use Rattle.std.specs.declared.result.Result.the-variants.{Ok, Err}
 use Rattle.model.specs.Meaning.{Meaning, Lawful}
 use Rattle.trail.proofs.Effects.{kept-same, kept-trans, kept-fewer}
-use Rattle.trail.specs.Held.{held, room, Kept}
+use Rattle.trail.specs.Held.{held, room, KeptFrom}
 use Rattle.trail.specs.declared.Trail.{Trail}
-use Rattle.planner.specs.Leads.{Passes}
-use Rattle.planner.specs.Search.{Progress, First, NoneOf, Tries, Backs, Turned, last-or, turns}
+use Rattle.planner.specs.Leads.{Passes, First}
+use Rattle.planner.specs.Search.{Progress, NoneOf, Tries, Backs, Turned, last-or, turns}
 use Rattle.planner.specs.declared.planning.Turn.{Turn}
 use Rattle.planner.specs.declared.planning.Turn.the-variants.{Found, Spent, Next}
 use Rattle.planner.proofs.Lasts.{split-last}
@@ -104,7 +104,7 @@ module _ {S F : Type 0} (m : Meaning S F) (law : Lawful m) (s : S) (k : ℕ) (st
         turn-tries m law s k (held actions) (held states) next p at ends shorter low r (held states′) (held actions′)
         (subst₂ (λ t u. Tries (m .step at next) (held t) (held u) next r (held states′) (held actions′)) states-same actions-same h)
 
-    pub asked-kept : length (held actions) < k → (states′ : Trail S) (actions′ : Trail ℕ) → Kept (length (held states₁) + 1) states₁ states′ → Kept (length (held actions₁) + 1) actions₁ actions′ → Kept (k + 1) states states′ × Kept k actions actions′
+    pub asked-kept : length (held actions) < k → (states′ : Trail S) (actions′ : Trail ℕ) → KeptFrom (length (held states₁) + 1) states₁ states′ → KeptFrom (length (held actions₁) + 1) actions₁ actions′ → KeptFrom (k + 1) states states′ × KeptFrom k actions actions′
     asked-kept shorter states′ actions′ hs ha =
         let c = counted m law s k (held actions) (held states) next p in
         let deep : length (held states₁) + 1 ≤ k + 1 = omega (arith, ap (λ t. length (held t)) states-same) in

@@ -32,8 +32,15 @@ pub record Distance {S F : Type 0} (m : Meaning S F) (s : S) (d : ℕ) : Type 0 
   pub reached : (xs : List ℕ) × (length xs ≡ d) × Leads m s xs
   pub least : (xs : List ℕ) → Leads m s xs → d ≤ length xs
 
--- at the first difference the first list has the lower action number
+-- the first list is a beginning of the second, or has the lower action number at the first difference
 abbrev pub NotAfter : List ℕ → List ℕ → Type 0
 NotAfter [] ys = Unit {0}
 NotAfter (x ∷ xs) [] = ⊥
 NotAfter (x ∷ xs) (y ∷ ys) = (x < y) ⊎ ((x ≡ y) × NotAfter xs ys)
+
+-- Of the lists of k actions that lead to the goal the path is the first, and ss are the states that it passes.
+pub record First {S F : Type 0} (m : Meaning S F) (s : S) (k : ℕ) (path : List ℕ) (ss : List S) : Type 0 where
+  pub passes : Passes m s path ss
+  pub counted : length path ≡ k
+  pub leads : Leads m s path
+  pub first : (ys : List ℕ) → length ys ≡ k → Leads m s ys → NotAfter path ys

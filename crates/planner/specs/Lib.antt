@@ -3,3 +3,4 @@ pub mod Leads
 pub mod Number
 pub mod Planned
 pub mod Search
+pub mod Walked

@@ -1,4 +1,4 @@
--- The number of each refusal of checking and planning, and what is added to it.
+-- The number of each refusal of checking and planning, and what is told beside it.
 use Prim.Native.Nat.{ℕ}
 use Rattle.planner.specs.declared.fault.CheckFault.{CheckFault}
 use Rattle.planner.specs.declared.fault.CheckFault.the-variants as checks

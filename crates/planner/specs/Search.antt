@@ -1,4 +1,4 @@
--- How far a depth-first search has come through the lists of exactly k actions.
+-- How far a depth-first search has come through the lists of exactly k actions. No public contract names these.
 use mathlib.Core.List.{List, [], _∷_, _++_}
 use mathlib.Core.Logic.{_⊎_}
 use mathlib.Core.Path.{_≡_}
@@ -8,7 +8,7 @@ use lib.ListN.{length}
 use Rattle.std.specs.declared.result.Result.{Result}
 use Rattle.std.specs.declared.result.Result.the-variants.{Ok, Err}
 use Rattle.model.specs.Meaning.{Meaning}
-use Rattle.planner.specs.Leads.{Leads, Passes, NotAfter}
+use Rattle.planner.specs.Leads.{Leads, Passes, First}
 use Rattle.planner.specs.declared.planning.Turn.{Turn}
 use Rattle.planner.specs.declared.planning.Turn.the-variants.{Found, Spent, Next}
 
@@ -20,18 +20,12 @@ Tried [] next (x ∷ xs) = x < next
 Tried (p ∷ path) next [] = ⊥
 Tried (p ∷ path) next (x ∷ xs) = (x < p) ⊎ ((x ≡ p) × Tried path next xs)
 
+-- The path passes the states ss, and no list that was tried leads to the goal.
 pub record Progress {S F : Type 0} (m : Meaning S F) (s : S) (k : ℕ) (path : List ℕ) (ss : List S) (next : ℕ) : Type 0 where
   pub passes : Passes m s path ss
   pub short : length path ≤ k
   pub next-within : next ≤ m .actions + 1
   pub vain : (xs : List ℕ) → length xs ≡ k → Tried path next xs → Leads m s xs → ⊥
-
--- the path is the first of the lists of k actions that lead to the goal
-pub record First {S F : Type 0} (m : Meaning S F) (s : S) (k : ℕ) (path : List ℕ) (ss : List S) : Type 0 where
-  pub passes : Passes m s path ss
-  pub counted : length path ≡ k
-  pub leads : Leads m s path
-  pub first : (ys : List ℕ) → length ys ≡ k → Leads m s ys → NotAfter path ys
 
 -- no list of exactly k actions leads to the goal
 abbrev pub NoneOf : {S F : Type 0} → Meaning S F → S → ℕ → Type 0
@@ -62,14 +56,15 @@ abbrev pub Tries : {S F : Type 0} → Result S F → List S → List ℕ → ℕ
 Tries (Ok t) ss path next r ss′ path′ = (r ≡ Next 1) × (ss′ ≡ ss ++ (t ∷ [])) × (path′ ≡ path ++ (next ∷ []))
 Tries (Err f) ss path next r ss′ path′ = (r ≡ Next (next + 1)) × (ss′ ≡ ss) × (path′ ≡ path)
 
--- What turning back does: the path loses its last action, and the one after that comes next.
+-- What turning back does: the path loses its last action, the states their last, if they have one, and the action after that
+-- comes next. Where the path has no action, all is spent.
 abbrev pub Backs : {S : Type 0} → List S → List ℕ → Turn → List S → List ℕ → Type 0
 Backs ss path Found ss′ path′ = ⊥
 Backs ss path Spent ss′ path′ = path ≡ []
 Backs {S} ss path (Next n) ss′ path′ =
     (a : ℕ) × (path ≡ path′ ++ (a ∷ [])) × (n ≡ a + 1) × ((front : List S) (u : S) → ss ≡ front ++ (u ∷ []) → ss′ ≡ front)
 
--- What one turn does.
+-- What one turn does. Where all is spent it does not matter what the trails hold: they are emptied next.
 abbrev pub Turned : {S F : Type 0} → Meaning S F → S → ℕ → List ℕ → ℕ → Turn → List ℕ → List S → Type 0
 Turned m s k path next Found path′ ss′ = First m s k path′ ss′
 Turned m s k path next Spent path′ ss′ = NoneOf m s k

@@ -1,5 +1,6 @@
 // Checking a list of actions against a model.
-ghost use Rattle.planner.specs.Checked.{Checked, Walked};
+ghost use Rattle.planner.specs.Checked.{Checked};
+ghost use Rattle.planner.specs.Walked.{Walked};
 use super::CheckFault;
 use model::Model;
 

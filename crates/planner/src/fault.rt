@@ -15,7 +15,7 @@ pub enum CheckFault<F> {
 }
 
 impl<F: Copy> CheckFault<F> {
-    // What is added to the number: the place of the action, 0 for the first value, the length of a short list.
+    // What is told beside the number: the place of the action, 0 for the first value, the length of a short list.
     pub fn added(&self) -> usize
         ensures { λ r. ⌜ r ≡ check-added (now (self .entry)) ⌝ }
     {

@@ -9,7 +9,7 @@ ghost use lib.ListN.{length};
 ghost use Rattle.planner.specs.Planned.{Planned, Ready, bound-read};
 ghost use Rattle.planner.specs.Search.{Progress, Turned, Tries, Backs, Explored, last-or};
 ghost use Rattle.std.specs.declared.result.Result.the-variants.{Ok};
-ghost use Rattle.trail.specs.Held.{held, room, Kept};
+ghost use Rattle.trail.specs.Held.{held, room, KeptFrom};
 use super::PlanFault;
 use model::Model;
 use trail::Trail;
@@ -101,8 +101,8 @@ fn forward<M: Model>(
     requires states_room { ⌜ length (held (now states)) < room (now states) ⌝ }
     requires actions_room { ⌜ length (held (now actions)) < room (now actions) ⌝ }
     ensures tries { λ r. ⌜ Tries (M·Model .meaning (now (model .entry)) .step at next) (held (now (states .entry))) (held (now (actions .entry))) next r (held (now (states .exit))) (held (now (actions .exit))) ⌝ }
-    ensures states_kept { λ _. ⌜ Kept (length (held (now (states .entry))) + 1) (now (states .entry)) (now (states .exit)) ⌝ }
-    ensures actions_kept { λ _. ⌜ Kept (length (held (now (actions .entry))) + 1) (now (actions .entry)) (now (actions .exit)) ⌝ }
+    ensures states_kept { λ _. ⌜ KeptFrom (length (held (now (states .entry))) + 1) (now (states .entry)) (now (states .exit)) ⌝ }
+    ensures actions_kept { λ _. ⌜ KeptFrom (length (held (now (actions .entry))) + 1) (now (actions .entry)) (now (actions .exit)) ⌝ }
 {
     match model.step(at, next) {
         Ok(t) => {
@@ -118,8 +118,8 @@ fn forward<M: Model>(
 fn back<T: Copy>(states: &mut Trail<T>, actions: &mut Trail<u16>) -> Turn
     requires { ⌜ ((path : List ℕ) (a : ℕ) → held (now actions) ≡ path ++ (a ∷ []) → a ≤ 200) ⌝ }
     ensures backs { λ r. ⌜ Backs (held (now (states .entry))) (held (now (actions .entry))) r (held (now (states .exit))) (held (now (actions .exit))) ⌝ }
-    ensures states_kept { λ _. ⌜ ((n : ℕ) → Kept n (now (states .entry)) (now (states .exit))) ⌝ }
-    ensures actions_kept { λ _. ⌜ ((n : ℕ) → Kept n (now (actions .entry)) (now (actions .exit))) ⌝ }
+    ensures states_kept { λ _. ⌜ ((n : ℕ) → KeptFrom n (now (states .entry)) (now (states .exit))) ⌝ }
+    ensures actions_kept { λ _. ⌜ ((n : ℕ) → KeptFrom n (now (actions .entry)) (now (actions .exit))) ⌝ }
 {
     match actions.pop() {
         Some(a) => {
@@ -150,8 +150,8 @@ fn take_turn<M: Model>(
     requires states_room { ⌜ depth + 1 ≤ room (now states) ⌝ }
     requires actions_room { ⌜ depth ≤ room (now actions) ⌝ }
     ensures turned { λ r. ⌜ Turned (M·Model .meaning (now (model .entry))) state depth (held (now (actions .entry))) next r (held (now (actions .exit))) (held (now (states .exit))) ⌝ }
-    ensures states_kept { λ _. ⌜ Kept (depth + 1) (now (states .entry)) (now (states .exit)) ⌝ }
-    ensures actions_kept { λ _. ⌜ Kept depth (now (actions .entry)) (now (actions .exit)) ⌝ }
+    ensures states_kept { λ _. ⌜ KeptFrom (depth + 1) (now (states .entry)) (now (states .exit)) ⌝ }
+    ensures actions_kept { λ _. ⌜ KeptFrom depth (now (actions .entry)) (now (actions .exit)) ⌝ }
 {
     let at = last(states, state);
     if actions.len() == depth as usize {
@@ -171,8 +171,8 @@ fn begin<T: Copy>(state: T, states: &mut Trail<T>, actions: &mut Trail<u16>)
     requires { ⌜ 0 < room (now states) ⌝ }
     ensures path { λ _. ⌜ held (now (actions .exit)) ≡ [] ⌝ }
     ensures passed { λ _. ⌜ held (now (states .exit)) ≡ state ∷ [] ⌝ }
-    ensures states_kept { λ _. ⌜ Kept 1 (now (states .entry)) (now (states .exit)) ⌝ }
-    ensures actions_kept { λ _. ⌜ Kept 0 (now (actions .entry)) (now (actions .exit)) ⌝ }
+    ensures states_kept { λ _. ⌜ KeptFrom 1 (now (states .entry)) (now (states .exit)) ⌝ }
+    ensures actions_kept { λ _. ⌜ KeptFrom 0 (now (actions .entry)) (now (actions .exit)) ⌝ }
 {
     actions.clear();
     states.clear();
@@ -190,8 +190,8 @@ fn explore<M: Model>(
     requires states_room { ⌜ depth + 1 ≤ room (now states) ⌝ }
     requires actions_room { ⌜ depth ≤ room (now actions) ⌝ }
     ensures explored { λ r. ⌜ Explored (M·Model .meaning (now (model .entry))) state depth r (held (now (actions .exit))) (held (now (states .exit))) ⌝ }
-    ensures states_kept { λ _. ⌜ Kept (depth + 1) (now (states .entry)) (now (states .exit)) ⌝ }
-    ensures actions_kept { λ _. ⌜ Kept depth (now (actions .entry)) (now (actions .exit)) ⌝ }
+    ensures states_kept { λ _. ⌜ KeptFrom (depth + 1) (now (states .entry)) (now (states .exit)) ⌝ }
+    ensures actions_kept { λ _. ⌜ KeptFrom depth (now (actions .entry)) (now (actions .exit)) ⌝ }
 {
     begin(state, states, actions);
     let mut next = 1;

@@ -7,7 +7,7 @@ use lib.ListN.{length, getD, set, take, length-take}
 use Rattle.std.proofs.shelf.Lists.{take-more, take-more-set, getD-take, nil-from-length}
 
 -- a length beyond the places counts as all of them
-take-used : {T : Type 0} (xs : List T) (n : ℕ) → take (length (take n xs)) xs ≡ take n xs
+pub take-used : {T : Type 0} (xs : List T) (n : ℕ) → take (length (take n xs)) xs ≡ take n xs
 take-used xs zero = refl
 take-used [] (suc n) = refl
 take-used (x ∷ xs) (suc n) = ap (λ ys. x ∷ ys) (take-used xs n)

@@ -14,8 +14,8 @@ held t = take (t .len) (now (t .places))
 abbrev pub room : {T : Type 0} → Trail T → ℕ
 room t = length (now (t .places))
 
--- u stands over the same lent places as t, and all but the first n of them hold what they held
-pub record Kept {T : Type 0} (n : ℕ) (t u : Trail T) : Type 0 where
+-- u stands over the same lent places as t, and those from place n on, counted from 0, hold what they held
+pub record KeptFrom {T : Type 0} (n : ℕ) (t u : Trail T) : Type 0 where
   pub lender : name (u .places) ≡ name (t .places)
   pub room-same : room u ≡ room t
   pub later : drop n (now (u .places)) ≡ drop n (now (t .places))

@@ -6,6 +6,7 @@ use lib.ListN.{length, getD}
 use Rattle.std.specs.declared.option.Option.{Option}
 use Rattle.std.specs.declared.option.Option.the-variants.{None, Some}
 
+-- The default of `getD` is x itself, since a type has no other value at hand; the place lies within, so it is not used.
 abbrev pub Item : {T : Type 0} → List T → ℕ → Option T → Type 0
 Item xs at None = length xs ≤ at
 Item xs at (Some x) = (at < length xs) × (x ≡ getD xs at x)

@@ -1,4 +1,4 @@
--- What the slice of a trail's places holds, by the first n of them that are in use.
+-- What the slice of a trail's places holds, by the first n of them that are in use. No public contract names these.
 use mathlib.Core.Path.{_≡_}
 use mathlib.Core.List.{List, [], _∷_, _++_}
 use Prim.Native.Nat.{ℕ, _+_, _<_, _≤_}

@@ -15,12 +15,10 @@ returns-then-explore g c =
     let found = c .if-explore .ensures tt in
     let states′ = c .explore .last .states in
     let actions′ = c .explore .last .actions in
-    planned m (c .args .state) (c .args .most) (c .args .states .now) (c .args .actions .now) (Ok (Steps depth)) states′ actions′ (
-      c .pre,
-      best m (c .args .state) (c .args .most) depth (held actions′) (held states′) within (c .loop-depth .inv .0) (found .explored),
-      kept-trans (c .loop-depth .inv .1) (kept-fewer (depth + 1) _ (omega arith) (found .states-kept)),
-      kept-trans (c .loop-depth .inv .2) (kept-fewer depth _ within (found .actions-kept)),
-    )
+    planned m (c .args .state) (c .args .most) (c .args .states .now) (c .args .actions .now) (Ok (Steps depth)) states′ actions′
+    (c .pre, best m (c .args .state) (c .args .most) depth (held actions′) (held states′) within (c .loop-depth .inv .0) (found .explored))
+    (kept-trans (c .loop-depth .inv .1) (kept-fewer (depth + 1) _ (omega arith) (found .states-kept)))
+    (kept-trans (c .loop-depth .inv .2) (kept-fewer depth _ within (found .actions-kept)))
 
 pub loop-depth-again : need.loop-depth-again
 loop-depth-again g c =
