@@ -1,6 +1,6 @@
 -- The rules of the hall, which every job keeps: what they say does not depend on how the jobs are written.
 use mathlib.Core.Path.{_≡_}
-use mathlib.Core.Bool.{true, false}
+use mathlib.Core.Bool.{false}
 use Prim.Native.Nat.{ℕ, _+_}
 use Rattle.hall.specs.Plant.{trusts, is-open}
 use Rattle.hall.specs.declared.plant.Plant.{Plant}

@@ -1,6 +1,6 @@
 -- What deepening level by level finds, and that an answer which says something true is the only one. Assumes nothing.
 use mathlib.Core.List.{List}
-use mathlib.Core.Path.{_≡_, refl, sym, ap, subst, _∙_}
+use mathlib.Core.Path.{_≡_, refl, ap}
 use Prim.Native.Nat.{ℕ, _+_, _≤_, _<_}
 use native.Mathlib.Decide.{decLt}
 use native.Mathlib.Omega.{arith}
@@ -8,7 +8,7 @@ use lib.ListN.{length}
 use Rattle.std.specs.declared.result.Result.{Result}
 use Rattle.std.specs.declared.result.Result.the-variants.{Ok, Err}
 use Rattle.model.specs.Meaning.{Meaning}
-use Rattle.trail.specs.Held.{held, KeptFrom}
+use Rattle.trail.specs.Held.{KeptFrom}
 use Rattle.trail.specs.declared.Trail.{Trail}
 use Rattle.planner.specs.Leads.{Leads, NoWay, Distance, First}
 use Rattle.planner.specs.Planned.{Best, Ready, PlanSays, Planned}

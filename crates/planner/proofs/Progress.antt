@@ -1,20 +1,19 @@
 -- What each turn of the depth-first search keeps true. Assumes nothing.
-use mathlib.Core.List.{List, [], _∷_, _++_, append-nil, append-assoc}
+use mathlib.Core.List.{List, [], _∷_, _++_, append-assoc}
 use mathlib.Core.Logic.{_⊎_, inl, inr}
 use mathlib.Core.Path.{_≡_, refl, sym, ap, subst, _∙_}
 use mathlib.Core.Bool.{true, false}
 use Prim.Native.Nat.{ℕ, _+_, _≤_, _<_}
-use native.Mathlib.Decide.{decLe, decLt}
+use native.Mathlib.Decide.{decLt}
 use native.Mathlib.Omega.{arith}
 use lib.ListN.{length, length-append}
-use Rattle.std.proofs.shelf.Lists.{nil-from-length}
 use Rattle.std.specs.declared.result.Result.{Result}
 use Rattle.std.specs.declared.result.Result.the-variants.{Ok, Err}
 use Rattle.model.specs.Meaning.{Meaning, Lawful}
-use Rattle.planner.specs.Leads.{Leads, Reaches, Passes, NotAfter, First}
+use Rattle.planner.specs.Leads.{Leads, Reaches, NotAfter, First}
 use Rattle.planner.specs.Search.{Tried, Progress, NoneOf, Tries}
 use Rattle.planner.specs.declared.planning.Turn.the-variants.{Next}
-use Rattle.planner.proofs.Ways.{ok-not-err, true-not-false, allowed-within, allowed-positive, leads-rest, leads-reached, passes-last, passes-push, passes-pop, passes-step, passes-length}
+use Rattle.planner.proofs.Ways.{ok-not-err, true-not-false, allowed-within, allowed-positive, leads-rest, leads-reached, passes-last, passes-push, passes-pop, passes-step}
 
 -- of two lists of one length, the first is not after the second, or the second was tried before it
 tried-or-not-after : (xs ys : List ℕ) (next : ℕ) → length xs ≡ length ys → NotAfter xs ys ⊎ Tried xs next ys

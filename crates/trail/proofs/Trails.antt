@@ -1,7 +1,7 @@
 -- What the first n places hold, where k of them are in use. Assumes nothing.
-use mathlib.Core.Path.{_≡_, refl, sym, ap, subst, _∙_}
+use mathlib.Core.Path.{_≡_, refl, sym, ap, _∙_}
 use mathlib.Core.List.{List, [], _∷_, _++_}
-use Prim.Native.Nat.{ℕ, suc, zero, min, _+_, _-_, _≤_, _<_}
+use Prim.Native.Nat.{ℕ, suc, zero, min, _+_, _-_, _<_}
 use native.Mathlib.Omega.{arith}
 use lib.ListN.{length, getD, set, take, length-take}
 use Rattle.std.proofs.shelf.Lists.{take-more, take-more-set, getD-take, nil-from-length}

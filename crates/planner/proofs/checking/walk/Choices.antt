@@ -1,6 +1,4 @@
 use lib.ListN.{take}
-use mathlib.Core.Path.{_≡_}
-use mathlib.Core.Bool.{true}
 use Rattle.planner.specs.Leads.{Reaches}
 use Rattle.planner.proofs.checking.walk.Given as given
 

@@ -1,5 +1,5 @@
-use Prim.Native.Nat.{_+_, _≤_}
-use Rattle.trail.specs.Held.{held, room, KeptFrom}
+use Prim.Native.Nat.{_+_}
+use Rattle.trail.specs.Held.{held, KeptFrom}
 use Rattle.planner.specs.Search.{Progress, turns}
 use Rattle.planner.proofs.planning.explore.Given as given
 

@@ -1,4 +1,3 @@
-use mathlib.Core.Path.{refl}
 use native.Mathlib.Omega.{arith}
 use Rattle.trail.proofs.Effects.{pushed-added, kept-added}
 use Rattle.trail.specs.Held.{held}
