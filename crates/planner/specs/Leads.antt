@@ -32,6 +32,10 @@ pub record Distance {S F : Type 0} (m : Meaning S F) (s : S) (d : ℕ) : Type 0 
   pub reached : (xs : List ℕ) × (length xs ≡ d) × Leads m s xs
   pub least : (xs : List ℕ) → Leads m s xs → d ≤ length xs
 
+-- a is the first of d actions that lead to the goal
+abbrev pub Begins : {S F : Type 0} → Meaning S F → S → ℕ → ℕ → Type 0
+Begins m s d a = (xs : List ℕ) × (length (a ∷ xs) ≡ d) × Leads m s (a ∷ xs)
+
 -- the first list is a beginning of the second, or has the lower action number at the first difference
 abbrev pub NotAfter : List ℕ → List ℕ → Type 0
 NotAfter [] ys = Unit {0}

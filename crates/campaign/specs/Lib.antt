@@ -1,0 +1,6 @@
+pub mod Answers
+pub mod Asked
+pub mod Ledger
+pub mod Number
+pub mod Promise
+pub mod Says

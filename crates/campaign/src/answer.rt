@@ -1,0 +1,57 @@
+// What the calls of a campaign answer.
+ghost use mathlib.Core.Path.{_≡_};
+ghost use Rattle.campaign.specs.Answers.{of-ask, of-report};
+use super::fault::CampaignFault;
+use super::fault::CampaignFaultDebug;
+use super::fault::CampaignFaultPartialEq;
+use super::order::Order;
+use super::order::OrderDebug;
+use super::order::OrderPartialEq;
+
+// What asking says where it is not refused.
+#[derive(Clone, Copy, PartialEq, Eq, Debug)]
+pub enum Advice {
+    // Carry this out next.
+    Order(Order),
+    // The goal is met.
+    Reached,
+    // No list of actions within the steps left leads to the goal.
+    NoWay,
+}
+
+// The answer to any call.
+#[derive(Clone, Copy, PartialEq, Eq, Debug)]
+pub enum Answer {
+    Order(Order),
+    Reached,
+    NoWay,
+    // A report or a finding was accepted; so many reports were by then.
+    Accepted(u16),
+    // The number shown.
+    Number(u16),
+    Refused(CampaignFault),
+}
+
+impl Answer {
+    // The answer of asking as one of any call.
+    pub fn of_ask(r: Result<Advice, CampaignFault>) -> Answer
+        ensures { λ a. ⌜ a ≡ of-ask r ⌝ }
+    {
+        match r {
+            Ok(Advice::Order(order)) => Answer::Order(order),
+            Ok(Advice::Reached) => Answer::Reached,
+            Ok(Advice::NoWay) => Answer::NoWay,
+            Err(fault) => Answer::Refused(fault),
+        }
+    }
+
+    // The answer of done, failed and finding as one of any call.
+    pub fn of_report(r: Result<u16, CampaignFault>) -> Answer
+        ensures { λ a. ⌜ a ≡ of-report r ⌝ }
+    {
+        match r {
+            Ok(reports) => Answer::Accepted(reports),
+            Err(fault) => Answer::Refused(fault),
+        }
+    }
+}

@@ -1,0 +1,46 @@
+// Why a call of a campaign is refused.
+ghost use mathlib.Core.Path.{_≡_};
+ghost use Rattle.campaign.specs.Number.{number, of-plan};
+use model::Cause;
+use planner::PlanFault;
+
+#[derive(Clone, Copy, PartialEq, Eq, Debug)]
+pub enum CampaignFault {
+    // The value is not a state.
+    NotAState,
+    // An order is out: it has to be reported on first.
+    OrderOut,
+    // No order is out that could be reported on.
+    NoOrder,
+    // The trail of states has fewer places than steps left and one more.
+    FewStates,
+    // The trail of actions has fewer places than steps left.
+    FewActions,
+}
+
+pub impl Cause for CampaignFault as CampaignFaultCause {
+    ghost told = { number };
+
+    fn number(&self) -> u16 {
+        match *self {
+            CampaignFault::NotAState => 22,
+            CampaignFault::OrderOut => 31,
+            CampaignFault::NoOrder => 32,
+            CampaignFault::FewStates => 34,
+            CampaignFault::FewActions => 35,
+        }
+    }
+}
+
+// Why planning is refused is why asking is.
+pub impl From<PlanFault> for CampaignFault as CampaignFaultFromPlan {
+    ghost converts = { λ f r. r ≡ of-plan f };
+
+    fn from(fault: PlanFault) -> CampaignFault {
+        match fault {
+            PlanFault::NotAState => CampaignFault::NotAState,
+            PlanFault::FewStates => CampaignFault::FewStates,
+            PlanFault::FewActions => CampaignFault::FewActions,
+        }
+    }
+}

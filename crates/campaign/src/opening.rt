@@ -1,0 +1,30 @@
+// Opening a campaign.
+ghost use mathlib.Core.List.{List};
+ghost use mathlib.Core.Path.{_≡_};
+ghost use Rattle.campaign.specs.Ledger.{opening};
+ghost use Rattle.planner.specs.Planned.{bound-read};
+use super::Campaign;
+use super::ledger::Ledger;
+use model::Model;
+
+// The highest bound; one above is read as this.
+const HIGHEST: u16 = 24;
+
+impl<M: Model> Campaign<M> {
+    pub fn open(model: M, bound: u16) -> Campaign<M>
+        ensures model { λ r. ⌜ r .model ≡ model ⌝ }
+        ensures bound { λ r. ⌜ r .bound ≡ bound-read bound ⌝ }
+        ensures ledger { λ r. ⌜ r .ledger ≡ opening (M·Model .meaning model) ⌝ }
+    {
+        let ledger = Ledger {
+            stands: model.start(),
+            reports: 0,
+            out: None,
+        };
+        Campaign {
+            model,
+            bound: bound.min(HIGHEST),
+            ledger,
+        }
+    }
+}
