@@ -1,1 +1,2 @@
 mod Advising
+mod Runs

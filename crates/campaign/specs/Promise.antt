@@ -56,3 +56,7 @@ pub record Promised {S F : Type 0} (m : Meaning S F) (b : ℕ) (es : List (Event
   pub arrives : (before during after : List (Event S)) (states actions : ℕ) (o : Order) → es ≡ before ++ (asked states actions (answers.Order o) ∷ (during ++ after)) → 0 < o .steps → marks m (reckoned m (opening m) (before ++ (asked states actions (answers.Order o) ∷ []))) during ≡ replicate (o .steps) did → m .at-goal (reckoned m (opening m) (before ++ (asked states actions (answers.Order o) ∷ during)) .stands) ≡ true
   -- the order out tells how far the goal is, and once it is done the goal is one step nearer
   pub nearer : (before after : List (Event S)) (a : Answer) → es ≡ before ++ (said-done a ∷ after) → (l : Ledger S) → l ≡ reckoned m (opening m) before → (o : Order) → l .out ≡ Some o → Distance m (l .stands) (o .steps) × (0 < o .steps) × Distance m (reckon m l calls.Done a .stands) (o .steps - 1)
+
+-- The promise: it holds of every run that follows the opening, however the model is shown.
+abbrev pub Promise : {S F : Type 0} → Meaning S F → ℕ → Type 0
+Promise {S} m b = (v : Shown S) (es : List (Event S)) → Follows m v b (opening m) es → Promised m b es

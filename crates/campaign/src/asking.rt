@@ -38,7 +38,7 @@ impl<M: Model> Campaign<M> {
             return Err(CampaignFault::OrderOut);
         }
         let stands = self.ledger.stands;
-        let left = self.bound.saturating_sub(self.ledger.reports);
+        let left = self.left();
         let advice = advise(&self.model, stands, left, states, actions)?;
         if let Advice::Order(order) = advice {
             self.ledger.out = Some(order);

@@ -12,7 +12,9 @@ mod finding;
 mod ledger;
 mod opening;
 mod order;
+mod questions;
 mod reporting;
+mod showing;
 
 pub use answer::Advice;
 pub use answer::AdviceDebug;

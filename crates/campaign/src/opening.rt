@@ -1,7 +1,7 @@
 // Opening a campaign.
-ghost use mathlib.Core.List.{List};
 ghost use mathlib.Core.Path.{_≡_};
 ghost use Rattle.campaign.specs.Ledger.{opening};
+ghost use Rattle.campaign.specs.Promise.{Promise};
 ghost use Rattle.planner.specs.Planned.{bound-read};
 use super::Campaign;
 use super::ledger::Ledger;
@@ -11,10 +11,13 @@ use model::Model;
 const HIGHEST: u16 = 24;
 
 impl<M: Model> Campaign<M> {
+    // The plant stands at the model's start; no report was accepted, and no order is out. Whatever calls follow, their
+    // answers keep the promise.
     pub fn open(model: M, bound: u16) -> Campaign<M>
         ensures model { λ r. ⌜ r .model ≡ model ⌝ }
         ensures bound { λ r. ⌜ r .bound ≡ bound-read bound ⌝ }
         ensures ledger { λ r. ⌜ r .ledger ≡ opening (M·Model .meaning model) ⌝ }
+        ensures promise { λ _. ⌜ Promise (M·Model .meaning model) (bound-read bound) ⌝ }
     {
         let ledger = Ledger {
             stands: model.start(),

@@ -1,0 +1,266 @@
+-- What holds along every run of calls that follows an opening. Assumes nothing.
+use mathlib.Core.Bool.{Bool, true, false, cond}
+use mathlib.Core.List.{List, [], _∷_, _++_}
+use mathlib.Core.Path.{_≡_, refl, sym, ap, subst, _∙_}
+use Prim.Native.Nat.{ℕ, zero, suc, _+_, _-_, _≤_, _<_}
+use native.Mathlib.Decide.{decLe, decLt}
+use native.Mathlib.Omega.{arith}
+use lib.ListN.{length, replicate}
+use Rattle.std.specs.declared.option.Option.{Option}
+use Rattle.std.specs.declared.option.Option.the-variants.{None, Some}
+use Rattle.std.specs.declared.result.Result.the-variants.{Ok}
+use Rattle.model.specs.Meaning.{Meaning, Lawful}
+use Rattle.model.specs.Shown.{Shown}
+use Rattle.planner.specs.Leads.{Leads, NoWay, Distance, Begins}
+use Rattle.campaign.specs.Ledger.{opening, moved, reckon, reckoned, left}
+use Rattle.campaign.specs.Promise.{Follows, Mark, did, missed, found, mark, marks, asked, said-done, Promised}
+use Rattle.campaign.specs.Says.{Ordered, Told, Answered, Advised, AskSays, Says}
+use Rattle.campaign.specs.declared.answer.Answer.{Answer}
+use Rattle.campaign.specs.declared.answer.Answer.the-variants as answers
+use Rattle.campaign.specs.declared.call.Call.{Call}
+use Rattle.campaign.specs.declared.call.Call.the-variants as calls
+use Rattle.campaign.specs.declared.call.Event.{Event}
+use Rattle.campaign.specs.declared.fault.CampaignFault.{CampaignFault}
+use Rattle.campaign.specs.declared.ledger.Ledger.{Ledger}
+use Rattle.campaign.specs.declared.order.Order.{Order}
+
+-- ---- answers that differ
+
+order-not-refused : {o : Order} {f : CampaignFault} → answers.Order o ≡ answers.Refused f → ⊥
+order-not-refused e = let z : _≡_ {A = ℕ} 0 1 = cc in omega arith
+
+order-not-no-way : {o : Order} → answers.Order o ≡ answers.NoWay → ⊥
+order-not-no-way e = let z : _≡_ {A = ℕ} 0 1 = cc in omega arith
+
+order-not-reached : {o : Order} → answers.Order o ≡ answers.Reached → ⊥
+order-not-reached e = let z : _≡_ {A = ℕ} 0 1 = cc in omega arith
+
+same-order : {o p : Order} → answers.Order o ≡ answers.Order p → p ≡ o
+same-order e = cc
+
+-- ---- marks that are all 'done'
+
+none-left : (d : ℕ) → [] ≡ replicate d did → d ≡ 0
+none-left zero e = refl
+none-left (suc d) e = let z : _≡_ {A = ℕ} 0 1 = cc in absurd (omega arith)
+
+one-did : (d : ℕ) (rest : List Mark) → did ∷ rest ≡ replicate d did → (k : ℕ) × (d ≡ k + 1) × (rest ≡ replicate k did)
+one-did zero rest e = let z : _≡_ {A = ℕ} 0 1 = cc in absurd (omega arith)
+one-did (suc d) rest e = (d, omega arith, cc)
+
+not-missed : (d : ℕ) (rest : List Mark) → missed ∷ rest ≡ replicate d did → ⊥
+not-missed zero rest e = let z : _≡_ {A = ℕ} 0 1 = cc in omega arith
+not-missed (suc d) rest e = let z : _≡_ {A = ℕ} 0 1 = cc in omega arith
+
+not-found : (d : ℕ) (rest : List Mark) → found ∷ rest ≡ replicate d did → ⊥
+not-found zero rest e = let z : _≡_ {A = ℕ} 0 1 = cc in omega arith
+not-found (suc d) rest e = let z : _≡_ {A = ℕ} 0 1 = cc in omega arith
+
+abbrev ledger : {S : Type 0} → S → ℕ → Option Order → Ledger S
+ledger s n out = record { stands = s; reports = n; out = out }
+
+-- An order that is out where the plant stands at s: its action begins a shortest list, and its steps are that list's length.
+record Due {S F : Type 0} (m : Meaning S F) (s : S) (o : Order) : Type 0 where
+  positive : 0 < o .steps
+  distance : Distance m s (o .steps)
+  begins : Begins m s (o .steps) (o .action)
+
+-- What every run keeps true of the ledger.
+record Sound {S F : Type 0} (m : Meaning S F) (l : Ledger S) : Type 0 where
+  state : m .is-state (l .stands) ≡ true
+  order : (o : Order) → l .out ≡ Some o → Due m (l .stands) o
+
+module _ {S F : Type 0} (m : Meaning S F) where
+  same-distance : (s : S) (d e : ℕ) → Distance m s d → Distance m s e → d ≡ e
+  same-distance s d e p q =
+      let x = p .reached in
+      let y = q .reached in
+      omega (arith, p .least (y .0) (y .2), q .least (x .0) (x .2), x .1, y .1)
+
+  -- at distance 0 the goal is met
+  arrived : (s : S) → Distance m s 0 → m .at-goal s ≡ true
+  arrived s p = by-list (p .reached .0) (p .reached .1) (p .reached .2)
+    where
+      by-list : (xs : List ℕ) → length xs ≡ 0 → Leads m s xs → m .at-goal s ≡ true
+      by-list [] e l = l
+      by-list (x ∷ xs) e l = absurd (omega (arith, e))
+
+  module _ (s : S) (o : Order) (due : Due m s o) where
+    -- where the order's action leads
+    abbrev there : S
+    there = due .begins .2 .0
+
+    leads-there : m .step s (o .action) ≡ Ok there
+    leads-there = due .begins .2 .1
+
+    moves-there : moved (m .step s (o .action)) s ≡ there
+    moves-there = ap (λ r. moved r s) leads-there
+
+    -- done brings the goal one nearer
+    brought-nearer : Distance m (moved (m .step s (o .action)) s) (o .steps - 1)
+    brought-nearer =
+        subst (λ t. Distance m t (o .steps - 1)) (sym moves-there)
+        (record {
+          reached = (due .begins .0, omega (arith, due .begins .1), due .begins .2 .2);
+          least = λ ys l. omega (arith, due .distance .least (o .action ∷ ys) (there, leads-there, l));
+        })
+
+  -- an order answered is for a shortest list
+  due-when-told : (s : S) (r : ℕ) (o : Order) → Told m s r (answers.Order o) → Due m s o
+  due-when-told s r o told =
+      elim (decLt 0 (told .d)) [
+        | yes h ↦ let given = told .unmet h in
+          subst (λ p. Due m s p) (same-order (given .said)) (record { positive = h; distance = told .distance; begins = given .begins })
+        | no h ↦ absurd (order-not-reached (told .met (omega arith)))
+      ]
+
+  due-when-advised : (s : S) (r x y : ℕ) (o : Order) → m .is-state s ≡ true → Advised m s r x y (answers.Order o) → Due m s o
+  due-when-advised s r x y o state given =
+      elim (decLe (r + 1) x) [
+        | no h ↦ absurd (order-not-refused (given .few-states state (omega arith)))
+        | yes h ↦ elim (decLe r y) [
+          | no k ↦ absurd (order-not-refused (given .few-actions state h (omega arith)))
+          | yes k ↦ let said = given .advice state h k in
+            due-when-told s r o (said .otherwise (λ none. order-not-no-way (said .said-when-true none)))
+        ]
+      ]
+
+module _ {S F : Type 0} (m : Meaning S F) (law : Lawful m) (v : Shown S) (b : ℕ) where
+  sound-opening : Sound m (opening m)
+  sound-opening = record { state = law .start-state; order = λ o e. absurd (let z : _≡_ {A = ℕ} 0 1 = cc in omega arith) }
+
+  -- with no order out it is enough that the plant stands at a state
+  sound-idle : (s : S) (n : ℕ) → m .is-state s ≡ true → Sound m (ledger s n None)
+  sound-idle s n h = record { state = h; order = λ o e. absurd (let z : _≡_ {A = ℕ} 0 1 = cc in omega arith) }
+
+  sound-ordered : (s : S) (n : ℕ) (o : Order) → m .is-state s ≡ true → Due m s o → Sound m (ledger s n (Some o))
+  sound-ordered s n o h due = record { state = h; order = λ p e. subst (λ q. Due m s q) (let same : o ≡ p = cc in same) due }
+
+  -- a finding that is accepted, or not
+  sound-found : (s t : S) (n : ℕ) (is : Bool) → m .is-state t ≡ is → m .is-state s ≡ true → Sound m (cond is (ledger t n None) (ledger s n None))
+  sound-found s t n true e h = sound-idle t n e
+  sound-found s t n false e h = sound-idle s n h
+
+  -- one call
+  sound-next : (s : S) (n : ℕ) (out : Option Order) (c : Call S) (a : Answer) → Says m v b (ledger s n out) c a → Sound m (ledger s n out) → Sound m (reckon m (ledger s n out) c a)
+  sound-next s n None (calls.Ask x y) (answers.Order o) says sound = sound-ordered s n o (sound .state) (due-when-advised m s (b - n) x y o (sound .state) (says .none refl))
+  sound-next s n None (calls.Ask x y) answers.Reached says sound = sound
+  sound-next s n None (calls.Ask x y) answers.NoWay says sound = sound
+  sound-next s n None (calls.Ask x y) (answers.Accepted k) says sound = sound
+  sound-next s n None (calls.Ask x y) (answers.Number k) says sound = sound
+  sound-next s n None (calls.Ask x y) (answers.Refused f) says sound = sound
+  sound-next s n (Some o) (calls.Ask x y) a says sound = sound
+  sound-next s n None calls.Done a says sound = sound
+  sound-next s n (Some o) calls.Done a says sound =
+      let due = sound .order o refl in
+      sound-idle _ (n + 1) (ap (m .is-state) (moves-there m s o due) ∙ law .step-state s (o .action) _ (leads-there m s o due))
+  sound-next s n None calls.Failed a says sound = sound
+  sound-next s n (Some o) calls.Failed a says sound = sound-idle s (n + 1) (sound .state)
+  sound-next s n None (calls.Find t) a says sound = sound-found s t n (m .is-state t) refl (sound .state)
+  sound-next s n (Some o) (calls.Find t) a says sound = sound
+  sound-next s n out (calls.Show p) a says sound = sound
+
+  sound-run : (es : List (Event S)) (l : Ledger S) → Sound m l → Follows m v b l es → Sound m (reckoned m l es)
+  sound-run [] l sound f = sound
+  sound-run (e ∷ es) l sound f =
+      sound-run es (reckon m l (e .call) (e .answer)) (sound-next (l .stands) (l .reports) (l .out) (e .call) (e .answer) (f .0) sound) (f .1)
+
+  -- One call on the way: where d more reports that say 'done' lead to the goal, and this call and the marks that follow are
+  -- just those, the marks that follow lead there from where the plant then stands.
+  toward-next : (s : S) (n : ℕ) (out : Option Order) (c : Call S) (a : Answer) (d : ℕ) (rest : List Mark) → Sound m (ledger s n out) → Distance m s d → mark m (ledger s n out) c ++ rest ≡ replicate d did → (k : ℕ) × Distance m (reckon m (ledger s n out) c a .stands) k × (rest ≡ replicate k did)
+  toward-next s n None (calls.Ask x y) (answers.Order o) d rest sound far e = (d, far, e)
+  toward-next s n None (calls.Ask x y) answers.Reached d rest sound far e = (d, far, e)
+  toward-next s n None (calls.Ask x y) answers.NoWay d rest sound far e = (d, far, e)
+  toward-next s n None (calls.Ask x y) (answers.Accepted i) d rest sound far e = (d, far, e)
+  toward-next s n None (calls.Ask x y) (answers.Number i) d rest sound far e = (d, far, e)
+  toward-next s n None (calls.Ask x y) (answers.Refused f) d rest sound far e = (d, far, e)
+  toward-next s n (Some o) (calls.Ask x y) a d rest sound far e = (d, far, e)
+  toward-next s n None calls.Done a d rest sound far e = (d, far, e)
+  toward-next s n (Some o) calls.Done a d rest sound far e =
+      let due = sound .order o refl in
+      let one = one-did d rest e in
+      let less : o .steps - 1 ≡ one .0 = omega (arith, same-distance m s d (o .steps) far (due .distance), one .1) in
+      (one .0, subst (λ k. Distance m (moved (m .step s (o .action)) s) k) less (brought-nearer m s o due), one .2)
+  toward-next s n None calls.Failed a d rest sound far e = (d, far, e)
+  toward-next s n (Some o) calls.Failed a d rest sound far e = absurd (not-missed d rest e)
+  toward-next s n None (calls.Find t) a d rest sound far e = by-state (m .is-state t) e
+    where
+      by-state : (is : Bool) → cond is (found ∷ []) [] ++ rest ≡ replicate d did → (k : ℕ) × Distance m (cond is (ledger t n None) (ledger s n None) .stands) k × (rest ≡ replicate k did)
+      by-state true f = absurd (not-found d rest f)
+      by-state false f = (d, far, f)
+  toward-next s n (Some o) (calls.Find t) a d rest sound far e = (d, far, e)
+  toward-next s n out (calls.Show p) a d rest sound far e = (d, far, e)
+
+  -- from distance d, a run with d accepted reports that all say 'done' and with no finding accepted ends at the goal
+  toward : (es : List (Event S)) (l : Ledger S) (d : ℕ) → Sound m l → Follows m v b l es → Distance m (l .stands) d → marks m l es ≡ replicate d did → m .at-goal (reckoned m l es .stands) ≡ true
+  toward [] l d sound f far e = arrived m (l .stands) (subst (λ k. Distance m (l .stands) k) (none-left d e) far)
+  toward (e ∷ es) l d sound f far said =
+      let l′ = reckon m l (e .call) (e .answer) in
+      let next = toward-next (l .stands) (l .reports) (l .out) (e .call) (e .answer) d (marks m l′ es) sound far said in
+      toward es l′ (next .0) (sound-next (l .stands) (l .reports) (l .out) (e .call) (e .answer) (f .0) sound) (f .1) (next .1) (next .2)
+
+  reckoned-append : (xs ys : List (Event S)) (l : Ledger S) → reckoned m l (xs ++ ys) ≡ reckoned m (reckoned m l xs) ys
+  reckoned-append [] ys l = refl
+  reckoned-append (e ∷ xs) ys l = reckoned-append xs ys (reckon m l (e .call) (e .answer))
+
+  follows-front : (xs ys : List (Event S)) (l : Ledger S) → Follows m v b l (xs ++ ys) → Follows m v b l xs
+  follows-front [] ys l f = tt
+  follows-front (e ∷ xs) ys l f = (f .0, follows-front xs ys (reckon m l (e .call) (e .answer)) (f .1))
+
+  follows-rest : (xs ys : List (Event S)) (l : Ledger S) → Follows m v b l (xs ++ ys) → Follows m v b (reckoned m l xs) ys
+  follows-rest [] ys l f = f
+  follows-rest (e ∷ xs) ys l f = follows-rest xs ys (reckon m l (e .call) (e .answer)) (f .1)
+
+  -- ---- the promise, for a run that follows the opening
+
+  module _ (es : List (Event S)) (f : Follows m v b (opening m) es) (before rest : List (Event S)) (splits : es ≡ before ++ rest) where
+    whole : Follows m v b (opening m) (before ++ rest)
+    whole = subst (λ xs. Follows m v b (opening m) xs) splits f
+
+    sound-before : Sound m (reckoned m (opening m) before)
+    sound-before = sound-run before (opening m) sound-opening (follows-front before rest (opening m) whole)
+
+    after-before : Follows m v b (reckoned m (opening m) before) rest
+    after-before = follows-rest before rest (opening m) whole
+
+  -- asking, wherever it stands in the run
+  promised-asking : (es : List (Event S)) → Follows m v b (opening m) es → (before after : List (Event S)) (x y : ℕ) (a : Answer) → es ≡ before ++ (asked x y a ∷ after) → (l : Ledger S) → l ≡ reckoned m (opening m) before → l .out ≡ None → left b l + 1 ≤ x → left b l ≤ y → Answered m (l .stands) (left b l) a
+  promised-asking es f before after x y a splits l at none hx hy =
+      let says = subst (λ k. AskSays m b k x y a) (sym at) (after-before es f before (asked x y a ∷ after) splits .0) in
+      let sound = subst (λ k. Sound m k) (sym at) (sound-before es f before (asked x y a ∷ after) splits) in
+      says .none none .advice (sound .state) hx hy
+
+  -- an order that was answered is out, and due
+  due-after : (l : Ledger S) (x y : ℕ) (o : Order) → Sound m l → AskSays m b l x y (answers.Order o) → Due m (reckon m l (calls.Ask x y) (answers.Order o) .stands) o
+  due-after l x y o sound says = by-order (l .stands) (l .reports) (l .out) sound says
+    where
+      by-order : (s : S) (n : ℕ) (out : Option Order) → Sound m (ledger s n out) → AskSays m b (ledger s n out) x y (answers.Order o) → Due m (reckon m (ledger s n out) (calls.Ask x y) (answers.Order o) .stands) o
+      by-order s n None sound says = due-when-advised m s (b - n) x y o (sound .state) (says .none refl)
+      by-order s n (Some p) sound says = absurd (order-not-refused (says .out p refl))
+
+  promised-arrives : (es : List (Event S)) → Follows m v b (opening m) es → (before during after : List (Event S)) (x y : ℕ) (o : Order) → es ≡ before ++ (asked x y (answers.Order o) ∷ (during ++ after)) → 0 < o .steps → marks m (reckoned m (opening m) (before ++ (asked x y (answers.Order o) ∷ []))) during ≡ replicate (o .steps) did → m .at-goal (reckoned m (opening m) (before ++ (asked x y (answers.Order o) ∷ during)) .stands) ≡ true
+  promised-arrives es f before during after x y o splits positive said =
+      let ordering = asked x y (answers.Order o) in
+      let rest = ordering ∷ (during ++ after) in
+      let l = reckoned m (opening m) before in
+      let l′ = reckon m l (calls.Ask x y) (answers.Order o) in
+      let sound = sound-before es f before rest splits in
+      let follows = after-before es f before rest splits in
+      let here : reckoned m (opening m) (before ++ (ordering ∷ [])) ≡ l′ = reckoned-append before (ordering ∷ []) (opening m) in
+      let due = due-after l x y o sound (follows .0) in
+      let end = toward during l′ (o .steps) (sound-next (l .stands) (l .reports) (l .out) (calls.Ask x y) (answers.Order o) (follows .0) sound) (follows-front during after l′ (follows .1)) (due .distance) (subst (λ k. marks m k during ≡ replicate (o .steps) did) here said) in
+      ap (λ k. m .at-goal (k .stands)) (reckoned-append before (ordering ∷ during) (opening m)) ∙ end
+
+  promised-nearer : (es : List (Event S)) → Follows m v b (opening m) es → (before after : List (Event S)) (a : Answer) → es ≡ before ++ (said-done a ∷ after) → (l : Ledger S) → l ≡ reckoned m (opening m) before → (o : Order) → l .out ≡ Some o → Distance m (l .stands) (o .steps) × (0 < o .steps) × Distance m (reckon m l calls.Done a .stands) (o .steps - 1)
+  promised-nearer es f before after a splits l at o out =
+      let sound = subst (λ k. Sound m k) (sym at) (sound-before es f before (said-done a ∷ after) splits) in
+      let due = sound .order o out in
+      let next : reckon m l calls.Done a .stands ≡ moved (m .step (l .stands) (o .action)) (l .stands) = by-order (l .out) out in
+      (due .distance, due .positive, subst (λ t. Distance m t (o .steps - 1)) (sym next) (brought-nearer m (l .stands) o due))
+    where
+      by-order : (other : Option Order) → other ≡ Some o → reckon m (ledger (l .stands) (l .reports) other) calls.Done a .stands ≡ moved (m .step (l .stands) (o .action)) (l .stands)
+      by-order None e = absurd (let z : _≡_ {A = ℕ} 0 1 = cc in omega arith)
+      by-order (Some p) e = let same : p ≡ o = cc in ap (λ q. moved (m .step (l .stands) (q .action)) (l .stands)) same
+
+  pub promised : (es : List (Event S)) → Follows m v b (opening m) es → Promised m b es
+  promised es f = record { asking = promised-asking es f; arrives = promised-arrives es f; nearer = promised-nearer es f }
