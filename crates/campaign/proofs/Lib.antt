@@ -1,2 +1,2 @@
 mod Advising
-mod Runs
+pub mod Runs

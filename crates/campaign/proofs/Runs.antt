@@ -199,7 +199,7 @@ module _ {S F : Type 0} (m : Meaning S F) (law : Lawful m) (v : Shown S) (b : �
       let next = toward-next (l .stands) (l .reports) (l .out) (e .call) (e .answer) d (marks m l′ es) sound far said in
       toward es l′ (next .0) (sound-next (l .stands) (l .reports) (l .out) (e .call) (e .answer) (f .0) sound) (f .1) (next .1) (next .2)
 
-  reckoned-append : (xs ys : List (Event S)) (l : Ledger S) → reckoned m l (xs ++ ys) ≡ reckoned m (reckoned m l xs) ys
+  pub reckoned-append : (xs ys : List (Event S)) (l : Ledger S) → reckoned m l (xs ++ ys) ≡ reckoned m (reckoned m l xs) ys
   reckoned-append [] ys l = refl
   reckoned-append (e ∷ xs) ys l = reckoned-append xs ys (reckon m l (e .call) (e .answer))
 
@@ -210,6 +210,11 @@ module _ {S F : Type 0} (m : Meaning S F) (law : Lawful m) (v : Shown S) (b : �
   follows-rest : (xs ys : List (Event S)) (l : Ledger S) → Follows m v b l (xs ++ ys) → Follows m v b (reckoned m l xs) ys
   follows-rest [] ys l f = f
   follows-rest (e ∷ xs) ys l f = follows-rest xs ys (reckon m l (e .call) (e .answer)) (f .1)
+
+  -- a run goes on by one call
+  pub follows-push : (xs : List (Event S)) (l : Ledger S) (e : Event S) → Follows m v b l xs → Says m v b (reckoned m l xs) (e .call) (e .answer) → Follows m v b l (xs ++ (e ∷ []))
+  follows-push [] l e f says = (says, tt)
+  follows-push (x ∷ xs) l e f says = (f .0, follows-push xs (reckon m l (x .call) (x .answer)) e (f .1) says)
 
   -- ---- the promise, for a run that follows the opening
 

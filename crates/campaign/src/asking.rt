@@ -3,10 +3,10 @@ ghost use mathlib.Core.Path.{_≡_};
 ghost use Prim.Native.Nat.{min, _≤_};
 ghost use Rattle.campaign.specs.Answers.{of-ask};
 ghost use Rattle.campaign.specs.Asked.{Asked, heading};
-ghost use Rattle.campaign.specs.Ledger.{reckon, left};
+ghost use Rattle.campaign.specs.Leaves.{Leaves};
+ghost use Rattle.campaign.specs.Ledger.{left};
 ghost use Rattle.campaign.specs.Says.{Advised, AskSays};
 ghost use Rattle.planner.specs.Planned.{bound-read};
-ghost use Rattle.std.specs.Results.{Cases};
 ghost use Rattle.trail.specs.Held.{held, room};
 use super::Campaign;
 use super::answer::Advice;
@@ -28,10 +28,7 @@ impl<M: Model> Campaign<M> {
         actions: &mut Trail<u16>,
     ) -> Result<Advice, CampaignFault>
         ensures says { λ r. ⌜ AskSays (M·Model .meaning (now (self .entry) .model)) (now (self .entry) .bound) (now (self .entry) .ledger) (room (now (states .entry))) (room (now (actions .entry))) (of-ask r) ⌝ }
-        ensures ledger { λ r. ⌜ now (self .exit) .ledger ≡ reckon (M·Model .meaning (now (self .entry) .model)) (now (self .entry) .ledger) (Call.Ask (room (now (states .entry))) (room (now (actions .entry)))) (of-ask r) ⌝ }
-        ensures model { λ _. ⌜ now (self .exit) .model ≡ now (self .entry) .model ⌝ }
-        ensures bound { λ _. ⌜ now (self .exit) .bound ≡ now (self .entry) .bound ⌝ }
-        ensures refused { λ r. ⌜ Cases r (λ _. Unit {0}) (λ _. now (self .exit) ≡ now (self .entry)) ⌝ }
+        ensures leaves { λ r. ⌜ Leaves (M·Model .meaning (now (self .entry) .model)) (now (self .entry)) (Call.Ask (room (now (states .entry))) (room (now (actions .entry)))) (of-ask r) (now (self .exit)) ⌝ }
         ensures trails { λ r. ⌜ Asked (M·Model .meaning (now (self .entry) .model)) (now (self .entry) .ledger .stands) (left (now (self .entry) .bound) (now (self .entry) .ledger)) (now (states .entry)) (now (actions .entry)) r (now (states .exit)) (now (actions .exit)) ⌝ }
     {
         if self.ledger.out.is_some() {

@@ -2,9 +2,9 @@
 ghost use mathlib.Core.Path.{_≡_};
 ghost use Prim.Native.Nat.{_+_, _<_};
 ghost use Rattle.campaign.specs.Answers.{of-report};
-ghost use Rattle.campaign.specs.Ledger.{reckon, reported};
+ghost use Rattle.campaign.specs.Leaves.{Leaves};
+ghost use Rattle.campaign.specs.Ledger.{reported};
 ghost use Rattle.campaign.specs.Says.{ReportSays};
-ghost use Rattle.std.specs.Results.{Cases};
 use super::Campaign;
 use super::call::Call;
 use super::fault::CampaignFault;
@@ -16,10 +16,7 @@ impl<M: Model> Campaign<M> {
     // Answers how many reports were accepted by then.
     pub fn done(&mut self) -> Result<u16, CampaignFault>
         ensures says { λ r. ⌜ ReportSays (now (self .entry) .ledger) (of-report r) ⌝ }
-        ensures ledger { λ r. ⌜ now (self .exit) .ledger ≡ reckon (M·Model .meaning (now (self .entry) .model)) (now (self .entry) .ledger) Call.Done (of-report r) ⌝ }
-        ensures model { λ _. ⌜ now (self .exit) .model ≡ now (self .entry) .model ⌝ }
-        ensures bound { λ _. ⌜ now (self .exit) .bound ≡ now (self .entry) .bound ⌝ }
-        ensures refused { λ r. ⌜ Cases r (λ _. Unit {0}) (λ _. now (self .exit) ≡ now (self .entry)) ⌝ }
+        ensures leaves { λ r. ⌜ Leaves (M·Model .meaning (now (self .entry) .model)) (now (self .entry)) Call.Done (of-report r) (now (self .exit)) ⌝ }
     {
         let Some(order) = self.ledger.out else {
             return Err(CampaignFault::NoOrder);
@@ -32,10 +29,7 @@ impl<M: Model> Campaign<M> {
     // The order was tried in vain: the plant stays. Answers how many reports were accepted by then.
     pub fn failed(&mut self) -> Result<u16, CampaignFault>
         ensures says { λ r. ⌜ ReportSays (now (self .entry) .ledger) (of-report r) ⌝ }
-        ensures ledger { λ r. ⌜ now (self .exit) .ledger ≡ reckon (M·Model .meaning (now (self .entry) .model)) (now (self .entry) .ledger) Call.Failed (of-report r) ⌝ }
-        ensures model { λ _. ⌜ now (self .exit) .model ≡ now (self .entry) .model ⌝ }
-        ensures bound { λ _. ⌜ now (self .exit) .bound ≡ now (self .entry) .bound ⌝ }
-        ensures refused { λ r. ⌜ Cases r (λ _. Unit {0}) (λ _. now (self .exit) ≡ now (self .entry)) ⌝ }
+        ensures leaves { λ r. ⌜ Leaves (M·Model .meaning (now (self .entry) .model)) (now (self .entry)) Call.Failed (of-report r) (now (self .exit)) ⌝ }
     {
         let Some(_) = self.ledger.out else {
             return Err(CampaignFault::NoOrder);
