@@ -13,8 +13,8 @@ use Rattle.model.specs.Meaning.{Meaning, Lawful}
 use Rattle.model.specs.Shown.{Shown}
 use Rattle.planner.specs.Leads.{Leads, NoWay, Distance, Begins}
 use Rattle.campaign.specs.Ledger.{opening, moved, reckon, reckoned, left}
-use Rattle.campaign.specs.Promise.{Follows, Mark, did, missed, found, mark, marks, asked, said-done, Promised}
-use Rattle.campaign.specs.Says.{Ordered, Told, Answered, Advised, AskSays, Says}
+use Rattle.campaign.specs.Promise.{Follows, Mark, did, missed, found, mark, marks, asked, said-done, Asking, Arriving, Nearing, Promised}
+use Rattle.campaign.specs.Says.{Told, Advised, AskSays, Says}
 use Rattle.campaign.specs.declared.answer.Answer.{Answer}
 use Rattle.campaign.specs.declared.answer.Answer.the-variants as answers
 use Rattle.campaign.specs.declared.call.Call.{Call}
@@ -110,7 +110,7 @@ module _ {S F : Type 0} (m : Meaning S F) where
   due-when-told s r o told =
       elim (decLt 0 (told .d)) [
         | yes h ↦ let given = told .unmet h in
-          subst (λ p. Due m s p) (same-order (given .said)) (record { positive = h; distance = told .distance; begins = given .begins })
+            subst (λ p. Due m s p) (same-order (given .said)) (record { positive = h; distance = told .distance; begins = given .begins })
         | no h ↦ absurd (order-not-reached (told .met (omega arith)))
       ]
 
@@ -121,7 +121,7 @@ module _ {S F : Type 0} (m : Meaning S F) where
         | yes h ↦ elim (decLe r y) [
           | no k ↦ absurd (order-not-refused (given .few-actions state h (omega arith)))
           | yes k ↦ let said = given .advice state h k in
-            due-when-told s r o (said .otherwise (λ none. order-not-no-way (said .said-when-true none)))
+              due-when-told s r o (said .otherwise (λ none. order-not-no-way (said .said-when-true none)))
         ]
       ]
 
@@ -228,44 +228,43 @@ module _ {S F : Type 0} (m : Meaning S F) (law : Lawful m) (v : Shown S) (b : �
     after-before : Follows m v b (reckoned m (opening m) before) rest
     after-before = follows-rest before rest (opening m) whole
 
-  -- asking, wherever it stands in the run
-  promised-asking : (es : List (Event S)) → Follows m v b (opening m) es → (before after : List (Event S)) (x y : ℕ) (a : Answer) → es ≡ before ++ (asked x y a ∷ after) → (l : Ledger S) → l ≡ reckoned m (opening m) before → l .out ≡ None → left b l + 1 ≤ x → left b l ≤ y → Answered m (l .stands) (left b l) a
+  promised-asking : (es : List (Event S)) → Follows m v b (opening m) es → Asking m b es
   promised-asking es f before after x y a splits l at none hx hy =
-      let says = subst (λ k. AskSays m b k x y a) (sym at) (after-before es f before (asked x y a ∷ after) splits .0) in
-      let sound = subst (λ k. Sound m k) (sym at) (sound-before es f before (asked x y a ∷ after) splits) in
+      let rest = asked x y a ∷ after in
+      let says = subst (λ k. AskSays m b k x y a) (sym at) (after-before es f before rest splits .0) in
+      let sound = subst (λ k. Sound m k) (sym at) (sound-before es f before rest splits) in
       says .none none .advice (sound .state) hx hy
 
   -- an order that was answered is out, and due
-  due-after : (l : Ledger S) (x y : ℕ) (o : Order) → Sound m l → AskSays m b l x y (answers.Order o) → Due m (reckon m l (calls.Ask x y) (answers.Order o) .stands) o
-  due-after l x y o sound says = by-order (l .stands) (l .reports) (l .out) sound says
-    where
-      by-order : (s : S) (n : ℕ) (out : Option Order) → Sound m (ledger s n out) → AskSays m b (ledger s n out) x y (answers.Order o) → Due m (reckon m (ledger s n out) (calls.Ask x y) (answers.Order o) .stands) o
-      by-order s n None sound says = due-when-advised m s (b - n) x y o (sound .state) (says .none refl)
-      by-order s n (Some p) sound says = absurd (order-not-refused (says .out p refl))
+  due-after : (s : S) (n : ℕ) (out : Option Order) (x y : ℕ) (o : Order) → Sound m (ledger s n out) → AskSays m b (ledger s n out) x y (answers.Order o) → Due m (reckon m (ledger s n out) (calls.Ask x y) (answers.Order o) .stands) o
+  due-after s n None x y o sound says = due-when-advised m s (b - n) x y o (sound .state) (says .none refl)
+  due-after s n (Some p) x y o sound says = absurd (order-not-refused (says .out p refl))
 
-  promised-arrives : (es : List (Event S)) → Follows m v b (opening m) es → (before during after : List (Event S)) (x y : ℕ) (o : Order) → es ≡ before ++ (asked x y (answers.Order o) ∷ (during ++ after)) → 0 < o .steps → marks m (reckoned m (opening m) (before ++ (asked x y (answers.Order o) ∷ []))) during ≡ replicate (o .steps) did → m .at-goal (reckoned m (opening m) (before ++ (asked x y (answers.Order o) ∷ during)) .stands) ≡ true
-  promised-arrives es f before during after x y o splits positive said =
+  promised-arriving : (es : List (Event S)) → Follows m v b (opening m) es → Arriving m es
+  promised-arriving es f before during after x y o splits l at positive said =
       let ordering = asked x y (answers.Order o) in
       let rest = ordering ∷ (during ++ after) in
-      let l = reckoned m (opening m) before in
-      let l′ = reckon m l (calls.Ask x y) (answers.Order o) in
+      let k = reckoned m (opening m) before in
+      let k′ = reckon m k (calls.Ask x y) (answers.Order o) in
       let sound = sound-before es f before rest splits in
       let follows = after-before es f before rest splits in
-      let here : reckoned m (opening m) (before ++ (ordering ∷ [])) ≡ l′ = reckoned-append before (ordering ∷ []) (opening m) in
-      let due = due-after l x y o sound (follows .0) in
-      let end = toward during l′ (o .steps) (sound-next (l .stands) (l .reports) (l .out) (calls.Ask x y) (answers.Order o) (follows .0) sound) (follows-front during after l′ (follows .1)) (due .distance) (subst (λ k. marks m k during ≡ replicate (o .steps) did) here said) in
-      ap (λ k. m .at-goal (k .stands)) (reckoned-append before (ordering ∷ during) (opening m)) ∙ end
+      let here : l ≡ k′ = at ∙ reckoned-append before (ordering ∷ []) (opening m) in
+      let due = due-after (k .stands) (k .reports) (k .out) x y o sound (follows .0) in
+      let sound′ = sound-next (k .stands) (k .reports) (k .out) (calls.Ask x y) (answers.Order o) (follows .0) sound in
+      let end = toward during k′ (o .steps) sound′ (follows-front during after k′ (follows .1)) (due .distance) (subst (λ z. marks m z during ≡ replicate (o .steps) did) here said) in
+      ap (λ z. m .at-goal (reckoned m z during .stands)) here ∙ end
 
-  promised-nearer : (es : List (Event S)) → Follows m v b (opening m) es → (before after : List (Event S)) (a : Answer) → es ≡ before ++ (said-done a ∷ after) → (l : Ledger S) → l ≡ reckoned m (opening m) before → (o : Order) → l .out ≡ Some o → Distance m (l .stands) (o .steps) × (0 < o .steps) × Distance m (reckon m l calls.Done a .stands) (o .steps - 1)
-  promised-nearer es f before after a splits l at o out =
+  -- where an order is out, done moves the plant by its action
+  done-moves : (s : S) (n : ℕ) (out : Option Order) (o : Order) (a : Answer) → out ≡ Some o → reckon m (ledger s n out) calls.Done a .stands ≡ moved (m .step s (o .action)) s
+  done-moves s n None o a e = absurd (let z : _≡_ {A = ℕ} 0 1 = cc in omega arith)
+  done-moves s n (Some p) o a e = let same : p ≡ o = cc in ap (λ q. moved (m .step s (q .action)) s) same
+
+  promised-nearing : (es : List (Event S)) → Follows m v b (opening m) es → Nearing m es
+  promised-nearing es f before after a splits l at o out =
       let sound = subst (λ k. Sound m k) (sym at) (sound-before es f before (said-done a ∷ after) splits) in
       let due = sound .order o out in
-      let next : reckon m l calls.Done a .stands ≡ moved (m .step (l .stands) (o .action)) (l .stands) = by-order (l .out) out in
-      (due .distance, due .positive, subst (λ t. Distance m t (o .steps - 1)) (sym next) (brought-nearer m (l .stands) o due))
-    where
-      by-order : (other : Option Order) → other ≡ Some o → reckon m (ledger (l .stands) (l .reports) other) calls.Done a .stands ≡ moved (m .step (l .stands) (o .action)) (l .stands)
-      by-order None e = absurd (let z : _≡_ {A = ℕ} 0 1 = cc in omega arith)
-      by-order (Some p) e = let same : p ≡ o = cc in ap (λ q. moved (m .step (l .stands) (q .action)) (l .stands)) same
+      let next = done-moves (l .stands) (l .reports) (l .out) o a out in
+      (due .positive, due .distance, subst (λ t. Distance m t (o .steps - 1)) (sym next) (brought-nearer m (l .stands) o due))
 
   pub promised : (es : List (Event S)) → Follows m v b (opening m) es → Promised m b es
-  promised es f = record { asking = promised-asking es f; arrives = promised-arrives es f; nearer = promised-nearer es f }
+  promised es f = record { asking = promised-asking es f; arriving = promised-arriving es f; nearing = promised-nearing es f }

@@ -48,14 +48,40 @@ asked states actions a = record { call = calls.Ask states actions; answer = a }
 abbrev pub said-done : {S : Type 0} → Answer → Event S
 said-done a = record { call = calls.Done; answer = a }
 
--- What holds of a run that follows an opening.
+-- Every asking with no order out and with room for the steps left, wherever it stands in the run: 'no way' is true when
+-- said and said when true, and otherwise the answer tells the fewest steps.
+abbrev pub Asking : {S F : Type 0} → Meaning S F → ℕ → List (Event S) → Type 0
+Asking {S} m b es =
+    (before after : List (Event S)) (states actions : ℕ) (a : Answer) →
+    es ≡ before ++ (asked states actions a ∷ after) →
+    (l : Ledger S) → l ≡ reckoned m (opening m) before →
+    l .out ≡ None → left b l + 1 ≤ states → left b l ≤ actions →
+    Answered m (l .stands) (left b l) a
+
+-- After an order of d steps come d accepted reports that all say 'done', with no finding accepted before the last of them:
+-- then the plant meets the goal.
+abbrev pub Arriving : {S F : Type 0} → Meaning S F → List (Event S) → Type 0
+Arriving {S} m es =
+    (before during after : List (Event S)) (states actions : ℕ) (o : Order) →
+    es ≡ before ++ (asked states actions (answers.Order o) ∷ (during ++ after)) →
+    (l : Ledger S) → l ≡ reckoned m (opening m) (before ++ (asked states actions (answers.Order o) ∷ [])) →
+    0 < o .steps → marks m l during ≡ replicate (o .steps) did →
+    m .at-goal (reckoned m l during .stands) ≡ true
+
+-- The order out tells how far the goal is from where the plant stands, and once it is done the goal is one step nearer.
+abbrev pub Nearing : {S F : Type 0} → Meaning S F → List (Event S) → Type 0
+Nearing {S} m es =
+    (before after : List (Event S)) (a : Answer) →
+    es ≡ before ++ (said-done a ∷ after) →
+    (l : Ledger S) → l ≡ reckoned m (opening m) before →
+    (o : Order) → l .out ≡ Some o →
+    (0 < o .steps) × Distance m (l .stands) (o .steps) × Distance m (reckon m l calls.Done a .stands) (o .steps - 1)
+
+-- what holds of a run that follows an opening
 pub record Promised {S F : Type 0} (m : Meaning S F) (b : ℕ) (es : List (Event S)) : Type 0 where
-  -- every asking with no order out and with room for the steps left, wherever it stands in the run
-  pub asking : (before after : List (Event S)) (states actions : ℕ) (a : Answer) → es ≡ before ++ (asked states actions a ∷ after) → (l : Ledger S) → l ≡ reckoned m (opening m) before → l .out ≡ None → left b l + 1 ≤ states → left b l ≤ actions → Answered m (l .stands) (left b l) a
-  -- an order of d steps, then d accepted reports that all say 'done', with no finding accepted among them: the goal is met
-  pub arrives : (before during after : List (Event S)) (states actions : ℕ) (o : Order) → es ≡ before ++ (asked states actions (answers.Order o) ∷ (during ++ after)) → 0 < o .steps → marks m (reckoned m (opening m) (before ++ (asked states actions (answers.Order o) ∷ []))) during ≡ replicate (o .steps) did → m .at-goal (reckoned m (opening m) (before ++ (asked states actions (answers.Order o) ∷ during)) .stands) ≡ true
-  -- the order out tells how far the goal is, and once it is done the goal is one step nearer
-  pub nearer : (before after : List (Event S)) (a : Answer) → es ≡ before ++ (said-done a ∷ after) → (l : Ledger S) → l ≡ reckoned m (opening m) before → (o : Order) → l .out ≡ Some o → Distance m (l .stands) (o .steps) × (0 < o .steps) × Distance m (reckon m l calls.Done a .stands) (o .steps - 1)
+  pub asking : Asking m b es
+  pub arriving : Arriving m es
+  pub nearing : Nearing m es
 
 -- The promise: it holds of every run that follows the opening, however the model is shown.
 abbrev pub Promise : {S F : Type 0} → Meaning S F → ℕ → Type 0

@@ -2,11 +2,15 @@
 ghost use mathlib.Core.Path.{_≡_};
 ghost use Rattle.campaign.specs.Answers.{of-ask, of-report};
 use super::fault::CampaignFault;
+use super::fault::CampaignFaultCause;
 use super::fault::CampaignFaultDebug;
+use super::fault::CampaignFaultDisplay;
 use super::fault::CampaignFaultPartialEq;
 use super::order::Order;
 use super::order::OrderDebug;
 use super::order::OrderPartialEq;
+use model::Cause;
+use std::fmt;
 
 // What asking says where it is not refused.
 #[derive(Clone, Copy, PartialEq, Eq, Debug)]
@@ -52,6 +56,25 @@ impl Answer {
         match r {
             Ok(reports) => Answer::Accepted(reports),
             Err(fault) => Answer::Refused(fault),
+        }
+    }
+}
+
+pub impl fmt::Display for Answer as AnswerDisplay {
+    fn fmt<W: fmt::Write>(&self, f: &mut fmt::Formatter<W>) -> fmt::Result {
+        match *self {
+            Answer::Order(Order { action, steps }) => write!(
+                f,
+                "order: action {action}, the first of {steps}"
+            ),
+            Answer::Reached => f.write_str("reached"),
+            Answer::NoWay => f.write_str("no way"),
+            Answer::Accepted(reports) => write!(f, "accepted, reports {reports}"),
+            Answer::Number(number) => write!(f, "{number}"),
+            Answer::Refused(fault) => {
+                let number = fault.number();
+                write!(f, "refused, {number}: {fault}")
+            }
         }
     }
 }

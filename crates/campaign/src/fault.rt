@@ -3,6 +3,7 @@ ghost use mathlib.Core.Path.{_≡_};
 ghost use Rattle.campaign.specs.Number.{number, of-plan};
 use model::Cause;
 use planner::PlanFault;
+use std::fmt;
 
 #[derive(Clone, Copy, PartialEq, Eq, Debug)]
 pub enum CampaignFault {
@@ -42,5 +43,19 @@ pub impl From<PlanFault> for CampaignFault as CampaignFaultFromPlan {
             PlanFault::FewStates => CampaignFault::FewStates,
             PlanFault::FewActions => CampaignFault::FewActions,
         }
+    }
+}
+
+pub impl fmt::Display for CampaignFault as CampaignFaultDisplay {
+    fn fmt<W: fmt::Write>(&self, f: &mut fmt::Formatter<W>) -> fmt::Result {
+        f.write_str(
+            match *self {
+                CampaignFault::NotAState => "the value is not a state",
+                CampaignFault::OrderOut => "an order is out",
+                CampaignFault::NoOrder => "no order is out",
+                CampaignFault::FewStates => "too few places for states",
+                CampaignFault::FewActions => "too few places for actions",
+            },
+        )
     }
 }

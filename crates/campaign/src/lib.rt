@@ -21,20 +21,21 @@ pub use answer::AdviceDebug;
 pub use answer::AdvicePartialEq;
 pub use answer::Answer;
 pub use answer::AnswerDebug;
+pub use answer::AnswerDisplay;
 pub use answer::AnswerPartialEq;
 pub use call::Call;
 pub use call::Event;
 pub use fault::CampaignFault;
 pub use fault::CampaignFaultCause;
 pub use fault::CampaignFaultDebug;
+pub use fault::CampaignFaultDisplay;
 pub use fault::CampaignFaultFromPlan;
 pub use fault::CampaignFaultPartialEq;
 pub use ledger::Ledger;
+use model::Model;
 pub use order::Order;
 pub use order::OrderDebug;
 pub use order::OrderPartialEq;
-
-use model::Model;
 
 // It holds a model, the bound as it is read, and the ledger.
 #[derive(Drop)]

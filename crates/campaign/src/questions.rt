@@ -12,6 +12,14 @@ impl<M: Model> Campaign<M> {
         &self.model
     }
 
+    // Ends the campaign and gives its model back.
+    pub fn into_model(self) -> M
+        ensures { λ r. ⌜ r ≡ self .model ⌝ }
+    {
+        let Campaign { model, .. } = self;
+        model
+    }
+
     // Where the plant stands.
     pub fn stands(&self) -> M::State
         ensures { λ r. ⌜ r ≡ now (self .entry) .ledger .stands ⌝ }

@@ -23,7 +23,7 @@ impl<M: Model> Campaign<M> {
         };
         let stands = self.ledger.stands;
         let next = self.model.step(stands, order.action).unwrap_or(stands);
-        Ok(self.close(next))
+        Ok(self.report(next))
     }
 
     // The order was tried in vain: the plant stays. Answers how many reports were accepted by then.
@@ -35,11 +35,11 @@ impl<M: Model> Campaign<M> {
             return Err(CampaignFault::NoOrder);
         };
         let stands = self.ledger.stands;
-        Ok(self.close(stands))
+        Ok(self.report(stands))
     }
 
     // Adds a report and closes the order, with the plant at `stands` from then on.
-    fn close(&mut self, stands: M::State) -> u16
+    fn report(&mut self, stands: M::State) -> u16
         requires { ⌜ now self .ledger .reports < now self .bound ⌝ }
         ensures value { λ r. ⌜ r ≡ now (self .entry) .ledger .reports + 1 ⌝ }
         ensures ledger { λ _. ⌜ now (self .exit) .ledger ≡ reported (now (self .entry) .ledger) stands ⌝ }

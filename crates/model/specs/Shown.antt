@@ -17,3 +17,7 @@ pub record Legible {S F : Type 0} (m : Meaning S F) (v : Shown S) : Type 0 where
   pub none-at-zero : (s : S) → v .number s 0 ≡ 0
   pub none-past : (s : S) (p : ℕ) → v .places < p → v .number s p ≡ 0
   pub none-of-no-state : (s : S) (p : ℕ) → m .is-state s ≡ false → v .number s p ≡ 0
+
+-- no number describes a state
+abbrev pub nothing-shown : {S : Type 0} → Shown S
+nothing-shown = record { places = 0; number = λ s p. 0 }

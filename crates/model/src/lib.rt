@@ -4,6 +4,12 @@ ghost use Prim.Native.Nat.{ℕ};
 ghost use Rattle.model.specs.Meaning.{Meaning, Lawful};
 ghost use Rattle.model.specs.Shown.{Shown, Legible};
 
+mod unshown;
+
+pub use unshown::Unshown;
+pub use unshown::UnshownModel;
+pub use unshown::UnshownShown;
+
 // A plant with a start, a goal and actions that lead from state to state.
 // Every answer is a function of `meaning`: asking changes nothing.
 pub trait Model {

@@ -13,15 +13,15 @@ pub front-kept : {A : Type 0} (k n : ℕ) (xs ys : List A) → n ≤ length xs �
 front-kept k n xs ys h e same =
     elim (decLe k n) [
       | yes le ↦
-        drop-append-le k ys (drop n xs) (omega arith)
-        ∙ ap (λ zs. zs ++ drop n xs) same
-        ∙ sym (drop-append-le k (take n xs) (drop n xs) (simp length-take (omega arith)))
-        ∙ ap (drop k) (take-append-drop n xs)
+          drop-append-le k ys (drop n xs) (omega arith)
+          ∙ ap (λ zs. zs ++ drop n xs) same
+          ∙ sym (drop-append-le k (take n xs) (drop n xs) (simp length-take (omega arith)))
+          ∙ ap (drop k) (take-append-drop n xs)
       | no gt ↦
-        let past : k ≡ length ys + (k - n) = omega arith in
-        let whole : (k - n) + n ≡ k = omega arith in
-        ap (λ i. drop i (ys ++ drop n xs)) past
-        ∙ drop-append-add ys (drop n xs) (k - n)
-        ∙ drop-drop (k - n) n xs
-        ∙ ap (λ i. drop i xs) (omega arith)
+          let past : k ≡ length ys + (k - n) = omega arith in
+          let whole : (k - n) + n ≡ k = omega arith in
+          ap (λ i. drop i (ys ++ drop n xs)) past
+          ∙ drop-append-add ys (drop n xs) (k - n)
+          ∙ drop-drop (k - n) n xs
+          ∙ ap (λ i. drop i xs) (omega arith)
     ]

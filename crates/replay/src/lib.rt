@@ -73,13 +73,7 @@ fn carry_out<M: ShownModel>(
         Call::Ask {
             states: states_allowed,
             actions: actions_allowed,
-        } => Answer::of_ask(ask_within(
-            campaign,
-            states,
-            actions,
-            states_allowed,
-            actions_allowed,
-        )),
+        } => Answer::of_ask(ask_within(campaign, states, actions, states_allowed, actions_allowed)),
         Call::Done => Answer::of_report(campaign.done()),
         Call::Failed => Answer::of_report(campaign.failed()),
         Call::Find(value) => Answer::of_report(campaign.find(value)),

@@ -30,8 +30,7 @@ loop-call-again g c =
     let says = subst (λ x. Says (g .M·Model .meaning x) (g .M·ShownModel .shown x) (first .bound) l (lent n k call) a) (inv .1) (subst₂ (λ b d. Says (g .M·Model .meaning (c .loop-call .campaign .model)) (g .M·ShownModel .shown (c .loop-call .campaign .model)) b l d a) (inv .2) lengths (said .says)) in
     let moved : l′ ≡ reckon m l (lent n k call) a = said .leaves .ledger ∙ ap (λ x. reckon (g .M·Model .meaning x) l (lent (length (c .loop-call .states)) (length (c .loop-call .actions)) call) a) (inv .1) ∙ ap (λ d. reckon m l d a) lengths in
     let more = logged-more m law v (first .bound) n k (c .args .calls .now) i log l l′ call a (c .loop-call-test .taken) (c .call-item .is) (inv .0) says moved in
-    let grown : log ++ (record { call = lent n k call; answer = a } ∷ []) ≡ vec-items (c .push .last .self) = ap (λ d. log ++ (record { call = d; answer = a } ∷ [])) (sym (c .limit-carried .ensures ∙ lengths)) ∙ sym (c .in-Continue-push .ensures tt .items) in
-    (
+    let grown : log ++ (record { call = lent n k call; answer = a } ∷ []) ≡ vec-items (c .push .last .self) = ap (λ d. log ++ (record { call = d; answer = a } ∷ [])) (sym (c .limit-carried .ensures ∙ lengths)) ∙ sym (c .in-Continue-push .ensures tt .items) in (
       subst (λ xs. Logged m v (first .bound) n k (take (i + 1) (c .args .calls .now)) xs l′) grown more,
       said .leaves .model ∙ inv .1,
       said .leaves .bound ∙ inv .2,
