@@ -65,11 +65,11 @@ pub impl fmt::Display for Answer as AnswerDisplay {
         match *self {
             Answer::Order(Order { action, steps }) => write!(
                 f,
-                "order: action {action}, the first of {steps}"
+                "order: action {action}, steps to the goal: {steps}"
             ),
             Answer::Reached => f.write_str("reached"),
             Answer::NoWay => f.write_str("no way"),
-            Answer::Accepted(reports) => write!(f, "accepted, reports {reports}"),
+            Answer::Accepted(reports) => write!(f, "accepted, reports: {reports}"),
             Answer::Number(number) => write!(f, "{number}"),
             Answer::Refused(fault) => {
                 let number = fault.number();

@@ -1,6 +1,11 @@
-// A customer's own plant under the planner: plans its rollover, checks lists of actions, and prints what it did.
+// A customer's own plant under the planner: plans its rollover, checks lists of actions, follows a campaign, and prints what
+// it did.
 ghost use Rattle.own_plant.specs.Lent.{Lent};
 ghost use Rattle.planner.specs.Planned.{bound-read};
+
+mod following;
+
+use following::print_campaign;
 use hall::Hall;
 use hall::HallFault;
 use hall::HallFaultCause;
@@ -202,5 +207,6 @@ fn main(rt: LibcRuntime) -> io::Result<()> {
     )?;
     print_answers(&rt, &hall)?;
     print_causes(&rt, &hall)?;
-    print_refusals(&rt, &hall)
+    print_refusals(&rt, &hall)?;
+    print_campaign(&rt, &hall)
 }
