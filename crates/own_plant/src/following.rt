@@ -1,4 +1,9 @@
 // Following the hall's rollover: a crew's calls, made one by one on a campaign, and then replayed.
+ghost use lib.ListN.{length};
+ghost use Rattle.campaign.specs.Leaves.{Leaves};
+ghost use Rattle.campaign.specs.Says.{Says};
+ghost use Rattle.hall.specs.Hall.{hall-meaning, hall-shown};
+ghost use Rattle.replay.specs.Replayed.{lent};
 use super::ACTIONS;
 use super::STATES;
 use campaign::Answer;
@@ -102,7 +107,10 @@ fn make_call(
     call: Call<Plant>,
     states: &mut [Plant],
     actions: &mut [u16],
-) -> Answer {
+) -> Answer
+    ensures says { λ r. ⌜ Says hall-meaning hall-shown (now (campaign .entry) .bound) (now (campaign .entry) .ledger) (lent (length (now (states .entry))) (length (now (actions .entry))) call) r ⌝ }
+    ensures leaves { λ r. ⌜ Leaves hall-meaning (now (campaign .entry)) (lent (length (now (states .entry))) (length (now (actions .entry))) call) r (now (campaign .exit)) ⌝ }
+{
     match call {
         Call::Ask {
             states: most_states,
