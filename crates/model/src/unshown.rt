@@ -3,6 +3,9 @@ ghost use Rattle.model.specs.Shown.{nothing-shown};
 use super::Model;
 use super::ShownModel;
 
+// How many numbers are shown.
+const PLACES: u16 = 0;
+
 // The model itself is as it was: it means the same.
 #[derive(Clone, Copy)]
 pub struct Unshown<M> {
@@ -41,7 +44,7 @@ pub impl<M: Model> ShownModel for Unshown<M> as UnshownShown {
     ghost shown = { λ _. nothing-shown };
 
     fn places(&self) -> u16 {
-        0
+        PLACES
     }
 
     fn number(&self, _s: M::State, _place: u16) -> u16 {

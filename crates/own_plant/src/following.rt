@@ -148,9 +148,13 @@ fn print_plant(rt: &LibcRuntime, plant: Plant) -> io::Result<()> {
 
 fn print_call(rt: &LibcRuntime, call: Call<Plant>) -> io::Result<()> {
     match call {
+        Call::Ask {
+            states: STATES,
+            actions: ACTIONS,
+        } => print!(rt, "ask"),
         Call::Ask { states, actions } => print!(
             rt,
-            "ask, with places for {states} states and {actions} actions"
+            "ask with places for {states} states and {actions} actions"
         ),
         Call::Done => print!(rt, "done"),
         Call::Failed => print!(rt, "failed"),
