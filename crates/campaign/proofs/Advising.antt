@@ -14,7 +14,8 @@ use Rattle.planner.specs.declared.planning.PlanAnswer.the-variants.{Steps}
 use Rattle.trail.specs.Held.{held, room}
 use Rattle.trail.specs.declared.Trail.{Trail}
 use Rattle.campaign.specs.Answers.{of-ask}
-use Rattle.campaign.specs.Asked.{heading, TrailsHold, Asked}
+use Rattle.campaign.specs.Asked.{TrailsHold, Asked}
+use Rattle.campaign.specs.Heading.{heading}
 use Rattle.campaign.specs.Says.{Ordered, Answered, Advised}
 use Rattle.campaign.specs.declared.answer.Answer.{Answer}
 use Rattle.campaign.specs.declared.answer.Answer.the-variants as answers

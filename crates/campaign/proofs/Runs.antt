@@ -13,7 +13,7 @@ use Rattle.model.specs.Meaning.{Meaning, Lawful}
 use Rattle.model.specs.Shown.{Shown}
 use Rattle.planner.specs.Leads.{Leads, NoWay, Distance, Begins}
 use Rattle.campaign.specs.Ledger.{opening, moved, reckon, reckoned, left}
-use Rattle.campaign.specs.Promise.{Follows, Mark, did, missed, found, mark, marks, asked, said-done, Asking, Arriving, Nearing, Promised}
+use Rattle.campaign.specs.Promise.{Follows, Mark, did, failed, found, mark, marks, ask-event, done-event, Asking, Arriving, Due, Standing, Nearing, Promised}
 use Rattle.campaign.specs.Says.{Told, Advised, AskSays, Says}
 use Rattle.campaign.specs.declared.answer.Answer.{Answer}
 use Rattle.campaign.specs.declared.answer.Answer.the-variants as answers
@@ -48,9 +48,9 @@ one-did : (d : ℕ) (rest : List Mark) → did ∷ rest ≡ replicate d did → 
 one-did zero rest e = let z : _≡_ {A = ℕ} 0 1 = cc in absurd (omega arith)
 one-did (suc d) rest e = (d, omega arith, cc)
 
-not-missed : (d : ℕ) (rest : List Mark) → missed ∷ rest ≡ replicate d did → ⊥
-not-missed zero rest e = let z : _≡_ {A = ℕ} 0 1 = cc in omega arith
-not-missed (suc d) rest e = let z : _≡_ {A = ℕ} 0 1 = cc in omega arith
+not-failed : (d : ℕ) (rest : List Mark) → failed ∷ rest ≡ replicate d did → ⊥
+not-failed zero rest e = let z : _≡_ {A = ℕ} 0 1 = cc in omega arith
+not-failed (suc d) rest e = let z : _≡_ {A = ℕ} 0 1 = cc in omega arith
 
 not-found : (d : ℕ) (rest : List Mark) → found ∷ rest ≡ replicate d did → ⊥
 not-found zero rest e = let z : _≡_ {A = ℕ} 0 1 = cc in omega arith
@@ -58,12 +58,6 @@ not-found (suc d) rest e = let z : _≡_ {A = ℕ} 0 1 = cc in omega arith
 
 abbrev ledger : {S : Type 0} → S → ℕ → Option Order → Ledger S
 ledger s n out = record { stands = s; reports = n; out = out }
-
--- An order that is out where the plant stands at s: its action begins a shortest list, and its steps are that list's length.
-record Due {S F : Type 0} (m : Meaning S F) (s : S) (o : Order) : Type 0 where
-  positive : 0 < o .steps
-  distance : Distance m s (o .steps)
-  begins : Begins m s (o .steps) (o .action)
 
 -- What every run keeps true of the ledger.
 record Sound {S F : Type 0} (m : Meaning S F) (l : Ledger S) : Type 0 where
@@ -182,7 +176,7 @@ module _ {S F : Type 0} (m : Meaning S F) (law : Lawful m) (v : Shown S) (b : �
       let less : o .steps - 1 ≡ one .0 = omega (arith, same-distance m s d (o .steps) far (due .distance), one .1) in
       (one .0, subst (λ k. Distance m (moved (m .step s (o .action)) s) k) less (brought-nearer m s o due), one .2)
   toward-next s n None calls.Failed a d rest sound far e = (d, far, e)
-  toward-next s n (Some o) calls.Failed a d rest sound far e = absurd (not-missed d rest e)
+  toward-next s n (Some o) calls.Failed a d rest sound far e = absurd (not-failed d rest e)
   toward-next s n None (calls.Find t) a d rest sound far e = by-state (m .is-state t) e
     where
       by-state : (is : Bool) → cond is (found ∷ []) [] ++ rest ≡ replicate d did → (k : ℕ) × Distance m (cond is (ledger t n None) (ledger s n None) .stands) k × (rest ≡ replicate k did)
@@ -216,55 +210,66 @@ module _ {S F : Type 0} (m : Meaning S F) (law : Lawful m) (v : Shown S) (b : �
   follows-push [] l e f says = (says, tt)
   follows-push (x ∷ xs) l e f says = (f .0, follows-push xs (reckon m l (x .call) (x .answer)) e (f .1) says)
 
-  -- ---- the promise, for a run that follows the opening
-
-  module _ (es : List (Event S)) (f : Follows m v b (opening m) es) (before rest : List (Event S)) (splits : es ≡ before ++ rest) where
-    whole : Follows m v b (opening m) (before ++ rest)
-    whole = subst (λ xs. Follows m v b (opening m) xs) splits f
-
-    sound-before : Sound m (reckoned m (opening m) before)
-    sound-before = sound-run before (opening m) sound-opening (follows-front before rest (opening m) whole)
-
-    after-before : Follows m v b (reckoned m (opening m) before) rest
-    after-before = follows-rest before rest (opening m) whole
-
-  promised-asking : (es : List (Event S)) → Follows m v b (opening m) es → Asking m b es
-  promised-asking es f before after x y a splits l at none hx hy =
-      let rest = asked x y a ∷ after in
-      let says = subst (λ k. AskSays m b k x y a) (sym at) (after-before es f before rest splits .0) in
-      let sound = subst (λ k. Sound m k) (sym at) (sound-before es f before rest splits) in
-      says .none none .advice (sound .state) hx hy
-
   -- an order that was answered is out, and due
   due-after : (s : S) (n : ℕ) (out : Option Order) (x y : ℕ) (o : Order) → Sound m (ledger s n out) → AskSays m b (ledger s n out) x y (answers.Order o) → Due m (reckon m (ledger s n out) (calls.Ask x y) (answers.Order o) .stands) o
   due-after s n None x y o sound says = due-when-advised m s (b - n) x y o (sound .state) (says .none refl)
   due-after s n (Some p) x y o sound says = absurd (order-not-refused (says .out p refl))
-
-  promised-arriving : (es : List (Event S)) → Follows m v b (opening m) es → Arriving m es
-  promised-arriving es f before during after x y o splits l at positive said =
-      let ordering = asked x y (answers.Order o) in
-      let rest = ordering ∷ (during ++ after) in
-      let k = reckoned m (opening m) before in
-      let k′ = reckon m k (calls.Ask x y) (answers.Order o) in
-      let sound = sound-before es f before rest splits in
-      let follows = after-before es f before rest splits in
-      let here : l ≡ k′ = at ∙ reckoned-append before (ordering ∷ []) (opening m) in
-      let due = due-after (k .stands) (k .reports) (k .out) x y o sound (follows .0) in
-      let sound′ = sound-next (k .stands) (k .reports) (k .out) (calls.Ask x y) (answers.Order o) (follows .0) sound in
-      let end = toward during k′ (o .steps) sound′ (follows-front during after k′ (follows .1)) (due .distance) (subst (λ z. marks m z during ≡ replicate (o .steps) did) here said) in
-      ap (λ z. m .at-goal (reckoned m z during .stands)) here ∙ end
 
   -- where an order is out, done moves the plant by its action
   done-moves : (s : S) (n : ℕ) (out : Option Order) (o : Order) (a : Answer) → out ≡ Some o → reckon m (ledger s n out) calls.Done a .stands ≡ moved (m .step s (o .action)) s
   done-moves s n None o a e = absurd (let z : _≡_ {A = ℕ} 0 1 = cc in omega arith)
   done-moves s n (Some p) o a e = let same : p ≡ o = cc in ap (λ q. moved (m .step s (q .action)) s) same
 
-  promised-nearing : (es : List (Event S)) → Follows m v b (opening m) es → Nearing m es
-  promised-nearing es f before after a splits l at o out =
-      let sound = subst (λ k. Sound m k) (sym at) (sound-before es f before (said-done a ∷ after) splits) in
-      let due = sound .order o out in
-      let next = done-moves (l .stands) (l .reports) (l .out) o a out in
-      (due .positive, due .distance, subst (λ t. Distance m t (o .steps - 1)) (sym next) (brought-nearer m (l .stands) o due))
+  -- ---- the promise, for a run that begins at a ledger where all is in order
 
-  pub promised : (es : List (Event S)) → Follows m v b (opening m) es → Promised m b es
-  promised es f = record { asking = promised-asking es f; arriving = promised-arriving es f; nearing = promised-nearing es f }
+  module _ (l : Ledger S) (first : Sound m l) (es : List (Event S)) (f : Follows m v b l es) where
+    module _ (before rest : List (Event S)) (splits : es ≡ before ++ rest) where
+      whole : Follows m v b l (before ++ rest)
+      whole = subst (λ xs. Follows m v b l xs) splits f
+
+      sound-before : Sound m (reckoned m l before)
+      sound-before = sound-run before l first (follows-front before rest l whole)
+
+      after-before : Follows m v b (reckoned m l before) rest
+      after-before = follows-rest before rest l whole
+
+    promised-asking : Asking m b l es
+    promised-asking before after x y a splits k at none hx hy =
+        let rest = ask-event x y a ∷ after in
+        let says = subst (λ z. AskSays m b z x y a) (sym at) (after-before before rest splits .0) in
+        let sound = subst (λ z. Sound m z) (sym at) (sound-before before rest splits) in
+        says .none none .advice (sound .state) hx hy
+
+    promised-arriving : Arriving m l es
+    promised-arriving before during after x y o splits k at positive said =
+        let ordering = ask-event x y (answers.Order o) in
+        let rest = ordering ∷ (during ++ after) in
+        let j = reckoned m l before in
+        let j′ = reckon m j (calls.Ask x y) (answers.Order o) in
+        let sound = sound-before before rest splits in
+        let follows = after-before before rest splits in
+        let here : k ≡ j′ = at ∙ reckoned-append before (ordering ∷ []) l in
+        let due = due-after (j .stands) (j .reports) (j .out) x y o sound (follows .0) in
+        let sound′ = sound-next (j .stands) (j .reports) (j .out) (calls.Ask x y) (answers.Order o) (follows .0) sound in
+        let end = toward during j′ (o .steps) sound′ (follows-front during after j′ (follows .1)) (due .distance) (subst (λ z. marks m z during ≡ replicate (o .steps) did) here said) in
+        ap (λ z. m .at-goal (reckoned m z during .stands)) here ∙ end
+
+    promised-standing : Standing m l es
+    promised-standing before after splits k at =
+        let sound = subst (λ z. Sound m z) (sym at) (sound-before before after splits) in
+        (sound .state, sound .order)
+
+    promised-nearing : Nearing m l es
+    promised-nearing before after a splits k at o out =
+        let due = promised-standing before (done-event a ∷ after) splits k at .1 o out in
+        let next = done-moves (k .stands) (k .reports) (k .out) o a out in
+        (due .distance, subst (λ t. Distance m t (o .steps - 1)) (sym next) (brought-nearer m (k .stands) o due))
+
+  pub promised : (es : List (Event S)) → Follows m v b (opening m) es → Promised m b (opening m) es
+  promised es f =
+      record {
+        asking = promised-asking (opening m) sound-opening es f;
+        arriving = promised-arriving (opening m) sound-opening es f;
+        standing = promised-standing (opening m) sound-opening es f;
+        nearing = promised-nearing (opening m) sound-opening es f;
+      }

@@ -1,4 +1,4 @@
--- The answer of each call as one of any call.
+-- What each call answers as an `Answer`, the type that serves every call.
 use Prim.Native.Nat.{ℕ}
 use Rattle.std.specs.declared.result.Result.{Result}
 use Rattle.std.specs.declared.result.Result.the-variants.{Ok, Err}

@@ -11,12 +11,6 @@ use Rattle.trail.specs.declared.Trail.{Trail}
 use Rattle.campaign.specs.declared.answer.Advice.{Advice}
 use Rattle.campaign.specs.declared.answer.Advice.the-variants as advice
 use Rattle.campaign.specs.declared.fault.CampaignFault.{CampaignFault}
-use Rattle.campaign.specs.declared.order.Order.{Order}
-
--- the first of the actions is ordered, with the steps; where there is none, the goal is reached
-abbrev pub heading : List ℕ → ℕ → Advice
-heading [] d = advice.Reached
-heading (x ∷ xs) d = advice.Order (record { action = x; steps = d })
 
 -- With an order the trails hold the best list, which begins with its action, and the states that it passes; with
 -- 'reached' no action, and the state where the plant stands; with 'no way' nothing; after a refusal what they held.

@@ -29,18 +29,18 @@ abbrev pub reported : {S : Type 0} → Ledger S → S → Ledger S
 reported l s = record { stands = s; reports = l .reports + 1; out = None }
 
 -- an order that asking answers is out; any other answer of asking changes nothing
-abbrev pub ordered : {S : Type 0} → Ledger S → Answer → Ledger S
-ordered l (answers.Order o) = record { stands = l .stands; reports = l .reports; out = Some o }
-ordered l answers.Reached = l
-ordered l answers.NoWay = l
-ordered l (answers.Accepted n) = l
-ordered l (answers.Number n) = l
-ordered l (answers.Refused f) = l
+abbrev pub with-order : {S : Type 0} → Ledger S → Answer → Ledger S
+with-order l (answers.Order o) = record { stands = l .stands; reports = l .reports; out = Some o }
+with-order l answers.Reached = l
+with-order l answers.NoWay = l
+with-order l (answers.Accepted n) = l
+with-order l (answers.Number n) = l
+with-order l (answers.Refused f) = l
 
 -- The ledger after one call. With an order out asking and finding are refused, with none out done and failed are, and so
 -- is finding a value that is not a state; what is refused changes nothing.
 abbrev pub reckon : {S F : Type 0} → Meaning S F → Ledger S → Call S → Answer → Ledger S
-reckon m l (calls.Ask x y) a = elim (l .out) [ None ↦ ordered l a | Some o ↦ l ]
+reckon m l (calls.Ask x y) a = elim (l .out) [ None ↦ with-order l a | Some o ↦ l ]
 reckon m l calls.Done a = elim (l .out) [ None ↦ l | Some o ↦ reported l (moved (m .step (l .stands) (o .action)) (l .stands)) ]
 reckon m l calls.Failed a = elim (l .out) [ None ↦ l | Some o ↦ reported l (l .stands) ]
 reckon m l (calls.Find s) a =

@@ -1,5 +1,6 @@
 pub mod Answers
 pub mod Asked
+pub mod Heading
 pub mod Leaves
 pub mod Ledger
 pub mod Number

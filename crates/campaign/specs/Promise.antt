@@ -7,8 +7,8 @@ use lib.ListN.{replicate}
 use Rattle.std.specs.declared.option.Option.the-variants.{None, Some}
 use Rattle.model.specs.Meaning.{Meaning}
 use Rattle.model.specs.Shown.{Shown}
-use Rattle.planner.specs.Leads.{Distance}
-use Rattle.campaign.specs.Ledger.{opening, reckon, reckoned, left}
+use Rattle.planner.specs.Leads.{Distance, Begins}
+use Rattle.campaign.specs.Ledger.{reckon, reckoned, left}
 use Rattle.campaign.specs.Says.{Answered, Says}
 use Rattle.campaign.specs.declared.answer.Answer.{Answer}
 use Rattle.campaign.specs.declared.answer.Answer.the-variants as answers
@@ -26,14 +26,14 @@ Follows m v b l (e ∷ es) = Says m v b l (e .call) (e .answer) × Follows m v b
 -- what an accepted report or finding leaves behind
 pub data Mark : Type 0 where
   did : Mark
-  missed : Mark
+  failed : Mark
   found : Mark
 
 -- the mark of a call: none where it is refused, asks or shows
 abbrev pub mark : {S F : Type 0} → Meaning S F → Ledger S → Call S → List Mark
 mark m l (calls.Ask x y) = []
 mark m l calls.Done = elim (l .out) [ None ↦ [] | Some o ↦ did ∷ [] ]
-mark m l calls.Failed = elim (l .out) [ None ↦ [] | Some o ↦ missed ∷ [] ]
+mark m l calls.Failed = elim (l .out) [ None ↦ [] | Some o ↦ failed ∷ [] ]
 mark m l (calls.Find s) = elim (l .out) [ None ↦ cond (m .is-state s) (found ∷ []) [] | Some o ↦ [] ]
 mark m l (calls.Show p) = []
 
@@ -42,47 +42,63 @@ abbrev pub marks : {S F : Type 0} → Meaning S F → Ledger S → List (Event S
 marks m l [] = []
 marks m l (e ∷ es) = mark m l (e .call) ++ marks m (reckon m l (e .call) (e .answer)) es
 
-abbrev pub asked : {S : Type 0} → ℕ → ℕ → Answer → Event S
-asked states actions a = record { call = calls.Ask states actions; answer = a }
+abbrev pub ask-event : {S : Type 0} → ℕ → ℕ → Answer → Event S
+ask-event states actions a = record { call = calls.Ask states actions; answer = a }
 
-abbrev pub said-done : {S : Type 0} → Answer → Event S
-said-done a = record { call = calls.Done; answer = a }
+abbrev pub done-event : {S : Type 0} → Answer → Event S
+done-event a = record { call = calls.Done; answer = a }
 
 -- Every asking with no order out and with room for the steps left, wherever it stands in the run: 'no way' is true when
 -- said and said when true, and otherwise the answer tells the fewest steps.
-abbrev pub Asking : {S F : Type 0} → Meaning S F → ℕ → List (Event S) → Type 0
-Asking {S} m b es =
+abbrev pub Asking : {S F : Type 0} → Meaning S F → ℕ → Ledger S → List (Event S) → Type 0
+Asking {S} m b l es =
     (before after : List (Event S)) (states actions : ℕ) (a : Answer) →
-    es ≡ before ++ (asked states actions a ∷ after) →
-    (l : Ledger S) → l ≡ reckoned m (opening m) before →
-    l .out ≡ None → left b l + 1 ≤ states → left b l ≤ actions →
-    Answered m (l .stands) (left b l) a
+    es ≡ before ++ (ask-event states actions a ∷ after) →
+    (k : Ledger S) → k ≡ reckoned m l before →
+    k .out ≡ None → left b k + 1 ≤ states → left b k ≤ actions →
+    Answered m (k .stands) (left b k) a
 
--- After an order of d steps come d accepted reports that all say 'done', with no finding accepted before the last of them:
--- then the plant meets the goal.
-abbrev pub Arriving : {S F : Type 0} → Meaning S F → List (Event S) → Type 0
-Arriving {S} m es =
+-- After an order of d steps the next d accepted reports are all 'done', with no finding accepted between the order and the
+-- last of them: then the plant meets the goal.
+abbrev pub Arriving : {S F : Type 0} → Meaning S F → Ledger S → List (Event S) → Type 0
+Arriving {S} m l es =
     (before during after : List (Event S)) (states actions : ℕ) (o : Order) →
-    es ≡ before ++ (asked states actions (answers.Order o) ∷ (during ++ after)) →
-    (l : Ledger S) → l ≡ reckoned m (opening m) (before ++ (asked states actions (answers.Order o) ∷ [])) →
-    0 < o .steps → marks m l during ≡ replicate (o .steps) did →
-    m .at-goal (reckoned m l during .stands) ≡ true
+    es ≡ before ++ (ask-event states actions (answers.Order o) ∷ (during ++ after)) →
+    (k : Ledger S) → k ≡ reckoned m l (before ++ (ask-event states actions (answers.Order o) ∷ [])) →
+    0 < o .steps → marks m k during ≡ replicate (o .steps) did →
+    m .at-goal (reckoned m k during .stands) ≡ true
 
--- The order out tells how far the goal is from where the plant stands, and once it is done the goal is one step nearer.
-abbrev pub Nearing : {S F : Type 0} → Meaning S F → List (Event S) → Type 0
-Nearing {S} m es =
+-- An order that is right where the plant stands at s: its action begins a list of its steps that leads to the goal, and no
+-- shorter list does.
+pub record Due {S F : Type 0} (m : Meaning S F) (s : S) (o : Order) : Type 0 where
+  pub positive : 0 < o .steps
+  pub distance : Distance m s (o .steps)
+  pub begins : Begins m s (o .steps) (o .action)
+
+-- Wherever the run has come to, the plant stands at a state, and the order out, if there is one, is right there.
+abbrev pub Standing : {S F : Type 0} → Meaning S F → Ledger S → List (Event S) → Type 0
+Standing {S} m l es =
+    (before after : List (Event S)) →
+    es ≡ before ++ after →
+    (k : Ledger S) → k ≡ reckoned m l before →
+    (m .is-state (k .stands) ≡ true) × ((o : Order) → k .out ≡ Some o → Due m (k .stands) o)
+
+-- An order that is done brings the goal one step nearer.
+abbrev pub Nearing : {S F : Type 0} → Meaning S F → Ledger S → List (Event S) → Type 0
+Nearing {S} m l es =
     (before after : List (Event S)) (a : Answer) →
-    es ≡ before ++ (said-done a ∷ after) →
-    (l : Ledger S) → l ≡ reckoned m (opening m) before →
-    (o : Order) → l .out ≡ Some o →
-    (0 < o .steps) × Distance m (l .stands) (o .steps) × Distance m (reckon m l calls.Done a .stands) (o .steps - 1)
+    es ≡ before ++ (done-event a ∷ after) →
+    (k : Ledger S) → k ≡ reckoned m l before →
+    (o : Order) → k .out ≡ Some o →
+    Distance m (k .stands) (o .steps) × Distance m (reckon m k calls.Done a .stands) (o .steps - 1)
 
--- what holds of a run that follows an opening
-pub record Promised {S F : Type 0} (m : Meaning S F) (b : ℕ) (es : List (Event S)) : Type 0 where
-  pub asking : Asking m b es
-  pub arriving : Arriving m es
-  pub nearing : Nearing m es
+-- what holds of a run that begins at the ledger l
+pub record Promised {S F : Type 0} (m : Meaning S F) (b : ℕ) (l : Ledger S) (es : List (Event S)) : Type 0 where
+  pub asking : Asking m b l es
+  pub arriving : Arriving m l es
+  pub standing : Standing m l es
+  pub nearing : Nearing m l es
 
--- The promise: it holds of every run that follows the opening, however the model is shown.
-abbrev pub Promise : {S F : Type 0} → Meaning S F → ℕ → Type 0
-Promise {S} m b = (v : Shown S) (es : List (Event S)) → Follows m v b (opening m) es → Promised m b es
+-- The promise, where the ledger is l: it holds of every run of calls from there, however the model is shown.
+abbrev pub Promise : {S F : Type 0} → Meaning S F → ℕ → Ledger S → Type 0
+Promise {S} m b l = (v : Shown S) (es : List (Event S)) → Follows m v b l es → Promised m b l es

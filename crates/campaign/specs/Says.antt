@@ -1,4 +1,4 @@
--- What each call of a campaign answers, by the ledger that it finds. b is the bound as it is read.
+-- What each call of a campaign answers, by the ledger at its entry. b is the bound as it is read.
 use mathlib.Core.Bool.{true, false}
 use mathlib.Core.Path.{_≡_}
 use Prim.Native.Nat.{ℕ, _+_, _≤_, _<_}

@@ -23,7 +23,7 @@ pub enum Advice {
     NoWay,
 }
 
-// The answer to any call.
+// The answer to any call, for a list of different calls.
 #[derive(Clone, Copy, PartialEq, Eq, Debug)]
 pub enum Answer {
     Order(Order),
@@ -37,7 +37,7 @@ pub enum Answer {
 }
 
 impl Answer {
-    // The answer of asking as one of any call.
+    // What asking answers, as the type that serves every call.
     pub fn of_ask(r: Result<Advice, CampaignFault>) -> Answer
         ensures { λ a. ⌜ a ≡ of-ask r ⌝ }
     {
@@ -49,7 +49,7 @@ impl Answer {
         }
     }
 
-    // The answer of done, failed and finding as one of any call.
+    // What done, failed and finding answer, as the type that serves every call.
     pub fn of_report(r: Result<u16, CampaignFault>) -> Answer
         ensures { λ a. ⌜ a ≡ of-report r ⌝ }
     {

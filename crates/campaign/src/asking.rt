@@ -1,12 +1,12 @@
 // Asking for the next step.
 ghost use mathlib.Core.Path.{_≡_};
-ghost use Prim.Native.Nat.{min, _≤_};
+ghost use Prim.Native.Nat.{_≤_};
 ghost use Rattle.campaign.specs.Answers.{of-ask};
-ghost use Rattle.campaign.specs.Asked.{Asked, heading};
+ghost use Rattle.campaign.specs.Asked.{Asked};
+ghost use Rattle.campaign.specs.Heading.{heading};
 ghost use Rattle.campaign.specs.Leaves.{Leaves};
 ghost use Rattle.campaign.specs.Ledger.{left};
 ghost use Rattle.campaign.specs.Says.{Advised, AskSays};
-ghost use Rattle.planner.specs.Planned.{bound-read};
 ghost use Rattle.trail.specs.Held.{held, room};
 use super::Campaign;
 use super::answer::Advice;
@@ -44,19 +44,19 @@ impl<M: Model> Campaign<M> {
     }
 }
 
-// What planning from a state says to a crew.
+// What planning from a state, for at most so many steps, says to a crew.
 fn advise<M: Model>(
     model: &M,
     state: M::State,
-    left: u16,
+    most: u16,
     states: &mut Trail<M::State>,
     actions: &mut Trail<u16>,
 ) -> Result<Advice, CampaignFault>
-    requires { ⌜ left ≤ 24 ⌝ }
-    ensures says { λ r. ⌜ Advised (M·Model .meaning (now (model .entry))) state left (room (now (states .entry))) (room (now (actions .entry))) (of-ask r) ⌝ }
-    ensures trails { λ r. ⌜ Asked (M·Model .meaning (now (model .entry))) state left (now (states .entry)) (now (actions .entry)) r (now (states .exit)) (now (actions .exit)) ⌝ }
+    requires { ⌜ most ≤ 24 ⌝ }
+    ensures says { λ r. ⌜ Advised (M·Model .meaning (now (model .entry))) state most (room (now (states .entry))) (room (now (actions .entry))) (of-ask r) ⌝ }
+    ensures trails { λ r. ⌜ Asked (M·Model .meaning (now (model .entry))) state most (now (states .entry)) (now (actions .entry)) r (now (states .exit)) (now (actions .exit)) ⌝ }
 {
-    match plan(model, state, left, states, actions)? {
+    match plan(model, state, most, states, actions)? {
         PlanAnswer::Steps(steps) => Ok(head(actions, steps)),
         PlanAnswer::NoWay => Ok(Advice::NoWay),
     }

@@ -17,7 +17,7 @@ impl<M: Model> Campaign<M> {
         ensures model { λ r. ⌜ r .model ≡ model ⌝ }
         ensures bound { λ r. ⌜ r .bound ≡ bound-read bound ⌝ }
         ensures ledger { λ r. ⌜ r .ledger ≡ opening (M·Model .meaning model) ⌝ }
-        ensures promise { λ _. ⌜ Promise (M·Model .meaning model) (bound-read bound) ⌝ }
+        ensures promise { λ r. ⌜ Promise (M·Model .meaning (r .model)) (r .bound) (r .ledger) ⌝ }
     {
         let ledger = Ledger {
             stands: model.start(),

@@ -6,8 +6,8 @@ use super::ShownModel;
 // How many numbers are shown.
 const PLACES: u16 = 0;
 
-// The model itself is as it was: it means the same.
-#[derive(Clone, Copy)]
+// Holds a model, and means what that means.
+#[derive(Drop)]
 pub struct Unshown<M> {
     pub model: M,
 }

@@ -20,11 +20,11 @@ returns-in-Steps g c =
     let t′ = c .plan .last .states in
     let u = c .args .actions .now in
     let u′ = c .plan .last .actions in
-    let read : min (c .args .left) 24 ≡ c .args .left = omega (arith, c .pre) in
+    let read : min (c .args .most) 24 ≡ c .args .most = omega (arith, c .pre) in
     let found : c .plan .result ≡ Ok (Steps d) = c .in-Continue-steps .was tt ∙ ap Ok (c .in-Steps .is) in
     let p = subst₂ (λ r a. Planned m s r t u a t′ u′) read found (c .plan .ensures) in
     let said = sym (c .head .ensures .value) in
     record {
-      says = subst (λ a. Advised m s (c .args .left) (room t) (room u) (of-ask (Ok a))) said (steps-advised m s (c .args .left) d t t′ u u′ p);
-      trails = subst₂ (λ a v. Asked m s (c .args .left) t u (Ok a) t′ v) said (sym (c .head .ensures .same)) (steps-asked m s (c .args .left) d t t′ u u′ p);
+      says = subst (λ a. Advised m s (c .args .most) (room t) (room u) (of-ask (Ok a))) said (steps-advised m s (c .args .most) d t t′ u u′ p);
+      trails = subst₂ (λ a v. Asked m s (c .args .most) t u (Ok a) t′ v) said (sym (c .head .ensures .same)) (steps-asked m s (c .args .most) d t t′ u u′ p);
     }
