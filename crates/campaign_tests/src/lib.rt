@@ -13,6 +13,7 @@ mod tests {
     use campaign::CampaignFaultCause;
     use campaign::CampaignFaultDebug;
     use campaign::CampaignFaultPartialEq;
+    use campaign::Event;
     use campaign::Order;
     use campaign::OrderDebug;
     use campaign::OrderPartialEq;
@@ -20,14 +21,20 @@ mod tests {
     use counter::CounterModel;
     use counter::CounterShown;
     use model::Cause;
+    use model::Model;
     use model::Unshown;
     use model::UnshownModel;
     use model::UnshownShown;
+    use replay::ShortLogCause;
     use replay::replay;
     use std::test::Fail;
-    use std::test::check;
     use std::test::check_eq;
     use trail::Trail;
+
+    const BLANK: Event<u16> = Event {
+        call: Call::Done,
+        answer: Answer::NoWay,
+    };
 
     // Asks with all the places that asking can need.
     fn asked(campaign: &mut Campaign<Counter>) -> Result<Advice, CampaignFault> {
@@ -143,7 +150,7 @@ mod tests {
     }
 
     #[test]
-    fn replays(rt: LibcRuntime) -> Result<(), Fail> {
+    fn replays() -> Result<(), Fail> {
         let calls = [
             Call::Ask {
                 states: 2,
@@ -156,31 +163,56 @@ mod tests {
             Call::Done,
             Call::Show(1),
         ];
+        let counter = Counter::new(3, 4);
         let mut states = [7; 5];
         let mut actions = [8; 5];
-        let log = replay(
-            rt.alloc(),
-            Counter::new(3, 4),
-            2,
-            &calls,
-            &mut states,
-            &mut actions,
-        )?;
-        check(log.len() == 4)?;
-        check_eq(log[0].answer, Answer::Refused(CampaignFault::FewStates))?;
+        let mut places = [BLANK; 5];
+        let mut log = Trail::new(&mut places);
+        let Ok(campaign) = replay(counter, 2, &calls, &mut states, &mut actions, &mut log) else {
+            return Err(Fail::new("the log has room"));
+        };
+        check_eq(log.len(), 4)?;
+        check_eq(campaign.left(), 1)?;
+        check_eq(campaign.stands(), 1)?;
+        check_eq(places[0].answer, Answer::Refused(CampaignFault::FewStates))?;
         let first = Order {
             action: 1,
             steps: 2,
         };
-        check_eq(log[1].answer, Answer::Order(first))?;
-        check_eq(log[2].answer, Answer::Accepted(1))?;
-        check_eq(log[3].answer, Answer::Number(1))?;
+        check_eq(places[1].answer, Answer::Order(first))?;
+        check_eq(places[2].answer, Answer::Accepted(1))?;
+        check_eq(places[3].answer, Answer::Number(1))?;
+        check_eq(places[4].answer, BLANK.answer)?;
         check_eq(states, [0, 1, 4, 7, 7])?;
         check_eq(actions, [1, 3, 8, 8, 8])
     }
 
     #[test]
-    fn replays_a_model_that_shows_nothing(rt: LibcRuntime) -> Result<(), Fail> {
+    fn a_log_that_is_too_short() -> Result<(), Fail> {
+        let calls = [Call::Show(1), Call::Show(2)];
+        let mut states = [7; 3];
+        let mut actions = [8; 2];
+        let mut places = [BLANK; 1];
+        let mut log = Trail::new(&mut places);
+        check_eq(log.push(BLANK).is_ok(), true)?;
+        let Err(short) = replay(
+            Counter::new(3, 4),
+            2,
+            &calls,
+            &mut states,
+            &mut actions,
+            &mut log,
+        ) else {
+            return Err(Fail::new("the log has no room"));
+        };
+        check_eq(short.number(), 14)?;
+        check_eq(short.model.actions(), 3)?;
+        check_eq(log.len(), 1)?;
+        check_eq(places[0].answer, BLANK.answer)
+    }
+
+    #[test]
+    fn replays_a_model_that_shows_nothing() -> Result<(), Fail> {
         let calls = [
             Call::Find(4),
             Call::Show(1),
@@ -189,19 +221,17 @@ mod tests {
                 actions: 2,
             },
         ];
-        let log = replay(
-            rt.alloc(),
-            Unshown {
-                model: Counter::new(3, 4),
-            },
-            2,
-            &calls,
-            &mut [0; 3],
-            &mut [0; 2],
-        )?;
-        check(log.len() == 3)?;
-        check_eq(log[0].answer, Answer::Accepted(0))?;
-        check_eq(log[1].answer, Answer::Number(0))?;
-        check_eq(log[2].answer, Answer::Reached)
+        let unshown = Unshown {
+            model: Counter::new(3, 4),
+        };
+        let mut places = [BLANK; 3];
+        let mut log = Trail::new(&mut places);
+        let Ok(campaign) = replay(unshown, 2, &calls, &mut [0; 3], &mut [0; 2], &mut log) else {
+            return Err(Fail::new("the log has room"));
+        };
+        check_eq(campaign.stands(), 4)?;
+        check_eq(places[0].answer, Answer::Accepted(0))?;
+        check_eq(places[1].answer, Answer::Number(0))?;
+        check_eq(places[2].answer, Answer::Reached)
     }
 }

@@ -3,7 +3,7 @@ ghost use lib.ListN.{length};
 ghost use Rattle.campaign.specs.Leaves.{Leaves};
 ghost use Rattle.campaign.specs.Says.{Says};
 ghost use Rattle.hall.specs.Hall.{hall-meaning, hall-shown};
-ghost use Rattle.replay.specs.Replayed.{lent};
+ghost use Rattle.replay.specs.Logged.{limited};
 use super::ACTIONS;
 use super::STATES;
 use campaign::Answer;
@@ -22,7 +22,9 @@ use hall::JobDisplay;
 use hall::Plant;
 use hall::Store;
 use hall::Window;
+use model::Cause;
 use model::Model;
+use replay::ShortLogCause;
 use replay::replay;
 use std::io;
 use trail::Trail;
@@ -108,8 +110,8 @@ fn make_call(
     states: &mut [Plant],
     actions: &mut [u16],
 ) -> Answer
-    ensures says { λ r. ⌜ Says hall-meaning hall-shown (now (campaign .entry) .bound) (now (campaign .entry) .ledger) (lent (length (now (states .entry))) (length (now (actions .entry))) call) r ⌝ }
-    ensures leaves { λ r. ⌜ Leaves hall-meaning (now (campaign .entry)) (lent (length (now (states .entry))) (length (now (actions .entry))) call) r (now (campaign .exit)) ⌝ }
+    ensures says { λ r. ⌜ Says hall-meaning hall-shown (now (campaign .entry) .bound) (now (campaign .entry) .ledger) (limited (length (now (states .entry))) (length (now (actions .entry))) call) r ⌝ }
+    ensures leaves { λ r. ⌜ Leaves hall-meaning (now (campaign .entry)) (limited (length (now (states .entry))) (length (now (actions .entry))) call) r (now (campaign .exit)) ⌝ }
 {
     match call {
         Call::Ask {
@@ -175,61 +177,82 @@ fn print_answer(rt: &LibcRuntime, answer: Answer) -> io::Result<()> {
     println!(rt, ": {answer}")
 }
 
-// Whether the log has just these answers.
-fn agrees(log: &[Event<Plant>], answers: &[Answer]) -> bool {
-    if log.len() != answers.len() {
+// Whether two logs have the same answers.
+fn agrees(log: &[Event<Plant>], other: &[Event<Plant>]) -> bool {
+    if log.len() != other.len() {
         return false;
     }
-    for (event, answer) in log.iter().zip(answers) {
-        if event.answer != *answer {
+    for (event, again) in log.iter().zip(other) {
+        if event.answer != again.answer {
             return false;
         }
     }
     true
 }
 
+// Replays the calls into the lent places of a log, and says whether the answers are those of the other log.
 fn print_replay(
     rt: &LibcRuntime,
     hall: &Hall,
     calls: &[Call<Plant>],
-    answers: &[Answer],
+    places: &mut [Event<Plant>],
+    other: &[Event<Plant>],
 ) -> io::Result<()> {
     let mut states = [hall.start(); STATES];
     let mut actions = [0; ACTIONS];
-    let log = replay(rt.alloc(), *hall, BOUND, calls, &mut states, &mut actions)?;
-    let count = log.len();
-    if agrees(log.as_slice(), answers) {
-        println!(rt, "replayed {count} calls: the answers agree")
+    let count = calls.len();
+    print!(rt, "replay of {count} calls: ")?;
+    let mut log = Trail::new(places);
+    let replayed = replay(*hall, BOUND, calls, &mut states, &mut actions, &mut log);
+    match replayed {
+        Ok(campaign) => {
+            let reports = campaign.reports();
+            print!(rt, "reports: {reports}, ")?;
+        }
+        Err(short) => {
+            let number = short.number();
+            return println!(rt, "refused, {number}: too few places for the log");
+        }
+    }
+    if agrees(places, other) {
+        println!(rt, "the answers agree")
     } else {
-        println!(rt, "replayed {count} calls: the answers differ")
+        println!(rt, "the answers differ")
     }
 }
 
-// Makes the calls on a campaign, prints each with its answer, and hands the answers back.
+// Makes the calls on a campaign, prints each with its answer, and keeps a log.
 fn print_calls(
     rt: &LibcRuntime,
     hall: &Hall,
     calls: &[Call<Plant>],
-    states: &mut [Plant],
-    actions: &mut [u16],
-) -> io::Result<Vec<Answer>> {
+    log: &mut Trail<Event<Plant>>,
+) -> io::Result<()> {
     let mut campaign = Campaign::open(*hall, BOUND);
-    let mut answers = Vec::new(rt.alloc());
     for call in calls {
-        let answer = make_call(&mut campaign, *call, states, actions);
+        let mut states = [hall.start(); STATES];
+        let mut actions = [0; ACTIONS];
+        let answer = make_call(&mut campaign, *call, &mut states, &mut actions);
         print_call(rt, *call)?;
         print_answer(rt, answer)?;
-        answers.push(answer)?;
+        let _ = log.push(Event {
+            call: *call,
+            answer,
+        });
     }
-    Ok(answers)
+    Ok(())
 }
 
 // Follows a campaign call by call, and replays it.
 pub fn print_campaign(rt: &LibcRuntime, hall: &Hall) -> io::Result<()> {
     println!(rt, "A campaign of at most {BOUND} steps.")?;
     let calls = crew(hall);
-    let mut states = [hall.start(); STATES];
-    let mut actions = [0; ACTIONS];
-    let answers = print_calls(rt, hall, &calls, &mut states, &mut actions)?;
-    print_replay(rt, hall, &calls, answers.as_slice())
+    let blank = Event {
+        call: Call::Done,
+        answer: Answer::NoWay,
+    };
+    let mut first = [blank; CALLS];
+    print_calls(rt, hall, &calls, &mut Trail::new(&mut first))?;
+    print_replay(rt, hall, &calls, &mut [blank; CALLS - 1], &first)?;
+    print_replay(rt, hall, &calls, &mut [blank; CALLS], &first)
 }

@@ -1,2 +1,3 @@
 mod Fronts
 mod Logs
+mod Unused

@@ -9,7 +9,8 @@ use Rattle.campaign.specs.Answers.{of-ask}
 use Rattle.campaign.specs.Leaves.{Leaves}
 use Rattle.campaign.specs.Says.{AskSays}
 use Rattle.campaign.specs.declared.call.Call.the-variants.{Ask}
-use Rattle.replay.proofs.ask_over.Needs as need
+use Rattle.replay.proofs.Unused.{trails-same}
+use Rattle.replay.proofs.carrying.ask_over.Needs as need
 
 pub returns : need.returns
 returns g c =
@@ -26,5 +27,8 @@ returns g c =
       says = subst₂ (λ xs ys. AskSays m (held .bound) (held .ledger) (length xs) (length ys) answer) states actions (c .ask .ensures .says);
       leaves = subst₂ (λ xs ys. Leaves m held (Ask (length xs) (length ys)) answer (c .ask .last .self)) states actions (c .ask .ensures .leaves);
       states-kept = ap (drop (held .bound + 1)) (search needs) ∙ kept .later ∙ ap (drop (held .bound + 1)) states;
+      unused = λ none.
+          let same = trails-same m (held .ledger .stands) (c .new .result) (c .ask .last .states) (c .new-2 .result) (c .ask .last .actions) (c .ask .result) (c .ask .ensures .trails .holds) none in
+          ((search needs) ∙ ap (λ t. now (t .places)) (same .0) ∙ states, (search needs) ∙ ap (λ t. now (t .places)) (same .1) ∙ actions);
       actions-kept = ap (drop (held .bound)) (search needs) ∙ kept-2 .later ∙ ap (drop (held .bound)) actions;
     }

@@ -1,0 +1,17 @@
+// Why a replay is refused.
+ghost use Prim.Native.Nat.{ℕ};
+use model::Cause;
+
+// The log has fewer places than there are calls. The model is handed back.
+#[derive(Drop)]
+pub struct ShortLog<M> {
+    pub model: M,
+}
+
+pub impl<M> Cause for ShortLog<M> as ShortLogCause {
+    ghost told = { λ _. 14 };
+
+    fn number(&self) -> u16 {
+        14
+    }
+}
