@@ -19,15 +19,24 @@ impl<M: Model> Campaign<M> {
         ensures ledger { λ r. ⌜ r .ledger ≡ opening (M·Model .meaning model) ⌝ }
         ensures promise { λ r. ⌜ Promise (M·Model .meaning (r .model)) (r .bound) (r .ledger) ⌝ }
     {
-        let ledger = Ledger {
-            stands: model.start(),
-            reports: 0,
-            out: None,
-        };
+        let most = bound.min(HIGHEST);
+        let ledger = begin(&model, most);
         Campaign {
             model,
-            bound: bound.min(HIGHEST),
+            bound: most,
             ledger,
         }
+    }
+}
+
+// The first ledger. From there every run of calls under the bound keeps the promise.
+fn begin<M: Model>(model: &M, most: u16) -> Ledger<M::State>
+    ensures ledger { λ r. ⌜ r ≡ opening (M·Model .meaning (now (model .entry))) ⌝ }
+    ensures promise { λ r. ⌜ Promise (M·Model .meaning (now (model .entry))) most r ⌝ }
+{
+    Ledger {
+        stands: model.start(),
+        reports: 0,
+        out: None,
     }
 }
