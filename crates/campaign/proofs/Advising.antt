@@ -2,22 +2,21 @@
 use mathlib.Core.List.{List, [], _∷_}
 use mathlib.Core.Logic.{inl, inr}
 use mathlib.Core.Path.{_≡_, refl, sym, ap, subst, _∙_}
-use Prim.Native.Nat.{ℕ, _+_, _≤_, _<_}
+use Prim.Native.Nat.{ℕ, _≤_}
 use native.Mathlib.Omega.{arith}
 use lib.ListN.{length}
 use Rattle.std.specs.declared.result.Result.the-variants.{Ok}
 use Rattle.model.specs.Meaning.{Meaning}
 use Rattle.planner.proofs.Ways.{true-not-false}
-use Rattle.planner.specs.Leads.{Leads, NoWay, Begins, NotAfter, Passes}
+use Rattle.planner.specs.Leads.{Leads, NoWay, NotAfter, Passes}
 use Rattle.planner.specs.Planned.{Planned}
 use Rattle.planner.specs.declared.planning.PlanAnswer.the-variants.{Steps}
 use Rattle.trail.specs.Held.{held, room}
 use Rattle.trail.specs.declared.Trail.{Trail}
 use Rattle.campaign.specs.Answers.{of-ask}
 use Rattle.campaign.specs.Asked.{TrailsHold, Asked}
-use Rattle.campaign.specs.Heading.{heading}
+use Rattle.campaign.specs.AdviceOf.{advice-of}
 use Rattle.campaign.specs.Says.{Ordered, Answered, Advised}
-use Rattle.campaign.specs.declared.answer.Answer.{Answer}
 use Rattle.campaign.specs.declared.answer.Answer.the-variants as answers
 
 no-way-not-reached : answers.Reached ≡ answers.NoWay → ⊥
@@ -44,7 +43,7 @@ module _ {S F : Type 0} (m : Meaning S F) (s : S) (r d : ℕ) (t t′ : Trail S)
         lowest = λ y b. not-after-head x y xs (b .0) (subst (λ ys. NotAfter ys (y ∷ b .0)) e (first .first (y ∷ b .0) (b .1) (b .2)));
       }
 
-  answered : (path : List ℕ) → held u′ ≡ path → Answered m s r (of-ask (Ok (heading path d)))
+  answered : (path : List ℕ) → held u′ ≡ path → Answered m s r (of-ask (Ok (advice-of path d)))
   answered [] e =
       record {
         true-when-said = λ q. absurd (no-way-not-reached q);
@@ -70,11 +69,11 @@ module _ {S F : Type 0} (m : Meaning S F) (s : S) (r d : ℕ) (t t′ : Trail S)
         };
       }
 
-  hold : (path : List ℕ) → held u′ ≡ path → TrailsHold m s t u (Ok (heading path d)) t′ u′
+  hold : (path : List ℕ) → held u′ ≡ path → TrailsHold m s t u (Ok (advice-of path d)) t′ u′
   hold [] e = (e, subst (λ ys. Passes m s ys (held t′)) e (p .says .1 .first .passes))
   hold (x ∷ xs) e = (p .says .1 .first, (xs, e))
 
-  pub steps-advised : Advised m s r (room t) (room u) (of-ask (Ok (heading (held u′) d)))
+  pub steps-advised : Advised m s r (room t) (room u) (of-ask (Ok (advice-of (held u′) d)))
   steps-advised =
       let ready = p .says .0 in
       record {
@@ -84,5 +83,5 @@ module _ {S F : Type 0} (m : Meaning S F) (s : S) (r d : ℕ) (t t′ : Trail S)
         advice = λ _ _ _. answered (held u′) refl;
       }
 
-  pub steps-asked : Asked m s r t u (Ok (heading (held u′) d)) t′ u′
+  pub steps-asked : Asked m s r t u (Ok (advice-of (held u′) d)) t′ u′
   steps-asked = record { holds = hold (held u′) refl; states-kept = p .states-kept; actions-kept = p .actions-kept }

@@ -2,7 +2,7 @@
 use mathlib.Core.Bool.{Bool, true, false, cond}
 use mathlib.Core.List.{List, [], _∷_, _++_}
 use mathlib.Core.Path.{_≡_, refl, sym, ap, subst, _∙_}
-use Prim.Native.Nat.{ℕ, zero, suc, _+_, _-_, _≤_, _<_}
+use Prim.Native.Nat.{ℕ, zero, suc, _+_, _-_}
 use native.Mathlib.Decide.{decLe, decLt}
 use native.Mathlib.Omega.{arith}
 use lib.ListN.{length, replicate}
@@ -11,9 +11,9 @@ use Rattle.std.specs.declared.option.Option.the-variants.{None, Some}
 use Rattle.std.specs.declared.result.Result.the-variants.{Ok}
 use Rattle.model.specs.Meaning.{Meaning, Lawful}
 use Rattle.model.specs.Shown.{Shown}
-use Rattle.planner.specs.Leads.{Leads, NoWay, Distance, Begins}
+use Rattle.planner.specs.Leads.{Leads, Distance}
 use Rattle.campaign.specs.Ledger.{opening, moved, reckon, reckoned, left}
-use Rattle.campaign.specs.Promise.{Follows, Mark, did, failed, found, mark, marks, ask-event, done-event, Asking, Arriving, Due, Standing, Nearing, Promised}
+use Rattle.campaign.specs.Promise.{Follows, Mark, done, failed, found, mark, marks, ask-event, done-event, Asking, Arriving, Due, Standing, Nearing, Promised}
 use Rattle.campaign.specs.Says.{Told, Advised, AskSays, Says}
 use Rattle.campaign.specs.declared.answer.Answer.{Answer}
 use Rattle.campaign.specs.declared.answer.Answer.the-variants as answers
@@ -40,19 +40,19 @@ same-order e = cc
 
 -- ---- marks that are all 'done'
 
-none-left : (d : ℕ) → [] ≡ replicate d did → d ≡ 0
+none-left : (d : ℕ) → [] ≡ replicate d done → d ≡ 0
 none-left zero e = refl
 none-left (suc d) e = let z : _≡_ {A = ℕ} 0 1 = cc in absurd (omega arith)
 
-one-did : (d : ℕ) (rest : List Mark) → did ∷ rest ≡ replicate d did → (k : ℕ) × (d ≡ k + 1) × (rest ≡ replicate k did)
-one-did zero rest e = let z : _≡_ {A = ℕ} 0 1 = cc in absurd (omega arith)
-one-did (suc d) rest e = (d, omega arith, cc)
+one-done : (d : ℕ) (rest : List Mark) → done ∷ rest ≡ replicate d done → (k : ℕ) × (d ≡ k + 1) × (rest ≡ replicate k done)
+one-done zero rest e = let z : _≡_ {A = ℕ} 0 1 = cc in absurd (omega arith)
+one-done (suc d) rest e = (d, omega arith, cc)
 
-not-failed : (d : ℕ) (rest : List Mark) → failed ∷ rest ≡ replicate d did → ⊥
+not-failed : (d : ℕ) (rest : List Mark) → failed ∷ rest ≡ replicate d done → ⊥
 not-failed zero rest e = let z : _≡_ {A = ℕ} 0 1 = cc in omega arith
 not-failed (suc d) rest e = let z : _≡_ {A = ℕ} 0 1 = cc in omega arith
 
-not-found : (d : ℕ) (rest : List Mark) → found ∷ rest ≡ replicate d did → ⊥
+not-found : (d : ℕ) (rest : List Mark) → found ∷ rest ≡ replicate d done → ⊥
 not-found zero rest e = let z : _≡_ {A = ℕ} 0 1 = cc in omega arith
 not-found (suc d) rest e = let z : _≡_ {A = ℕ} 0 1 = cc in omega arith
 
@@ -60,9 +60,9 @@ abbrev ledger : {S : Type 0} → S → ℕ → Option Order → Ledger S
 ledger s n out = record { stands = s; reports = n; out = out }
 
 -- What every run keeps true of the ledger.
-record Sound {S F : Type 0} (m : Meaning S F) (l : Ledger S) : Type 0 where
+record Sound {S F : Type 0} (m : Meaning S F) (b : ℕ) (l : Ledger S) : Type 0 where
   state : m .is-state (l .stands) ≡ true
-  order : (o : Order) → l .out ≡ Some o → Due m (l .stands) o
+  order : (o : Order) → l .out ≡ Some o → Due m (l .stands) (left b l) o
 
 module _ {S F : Type 0} (m : Meaning S F) where
   same-distance : (s : S) (d e : ℕ) → Distance m s d → Distance m s e → d ≡ e
@@ -79,7 +79,7 @@ module _ {S F : Type 0} (m : Meaning S F) where
       by-list [] e l = l
       by-list (x ∷ xs) e l = absurd (omega (arith, e))
 
-  module _ (s : S) (o : Order) (due : Due m s o) where
+  module _ (s : S) (r : ℕ) (o : Order) (due : Due m s r o) where
     -- where the order's action leads
     abbrev there : S
     there = due .begins .2 .0
@@ -100,15 +100,15 @@ module _ {S F : Type 0} (m : Meaning S F) where
         })
 
   -- an order answered is for a shortest list
-  due-when-told : (s : S) (r : ℕ) (o : Order) → Told m s r (answers.Order o) → Due m s o
+  due-when-told : (s : S) (r : ℕ) (o : Order) → Told m s r (answers.Order o) → Due m s r o
   due-when-told s r o told =
       elim (decLt 0 (told .d)) [
         | yes h ↦ let given = told .unmet h in
-            subst (λ p. Due m s p) (same-order (given .said)) (record { positive = h; distance = told .distance; begins = given .begins })
+            subst (λ p. Due m s r p) (same-order (given .said)) (record { positive = h; within = told .within; distance = told .distance; begins = given .begins })
         | no h ↦ absurd (order-not-reached (told .met (omega arith)))
       ]
 
-  due-when-advised : (s : S) (r x y : ℕ) (o : Order) → m .is-state s ≡ true → Advised m s r x y (answers.Order o) → Due m s o
+  due-when-advised : (s : S) (r x y : ℕ) (o : Order) → m .is-state s ≡ true → Advised m s r x y (answers.Order o) → Due m s r o
   due-when-advised s r x y o state given =
       elim (decLe (r + 1) x) [
         | no h ↦ absurd (order-not-refused (given .few-states state (omega arith)))
@@ -120,23 +120,23 @@ module _ {S F : Type 0} (m : Meaning S F) where
       ]
 
 module _ {S F : Type 0} (m : Meaning S F) (law : Lawful m) (v : Shown S) (b : ℕ) where
-  sound-opening : Sound m (opening m)
+  sound-opening : Sound m b (opening m)
   sound-opening = record { state = law .start-state; order = λ o e. absurd (let z : _≡_ {A = ℕ} 0 1 = cc in omega arith) }
 
   -- with no order out it is enough that the plant stands at a state
-  sound-idle : (s : S) (n : ℕ) → m .is-state s ≡ true → Sound m (ledger s n None)
+  sound-idle : (s : S) (n : ℕ) → m .is-state s ≡ true → Sound m b (ledger s n None)
   sound-idle s n h = record { state = h; order = λ o e. absurd (let z : _≡_ {A = ℕ} 0 1 = cc in omega arith) }
 
-  sound-ordered : (s : S) (n : ℕ) (o : Order) → m .is-state s ≡ true → Due m s o → Sound m (ledger s n (Some o))
-  sound-ordered s n o h due = record { state = h; order = λ p e. subst (λ q. Due m s q) (let same : o ≡ p = cc in same) due }
+  sound-ordered : (s : S) (n : ℕ) (o : Order) → m .is-state s ≡ true → Due m s (b - n) o → Sound m b (ledger s n (Some o))
+  sound-ordered s n o h due = record { state = h; order = λ p e. subst (λ q. Due m s (b - n) q) (let same : o ≡ p = cc in same) due }
 
   -- a finding that is accepted, or not
-  sound-found : (s t : S) (n : ℕ) (is : Bool) → m .is-state t ≡ is → m .is-state s ≡ true → Sound m (cond is (ledger t n None) (ledger s n None))
+  sound-found : (s t : S) (n : ℕ) (is : Bool) → m .is-state t ≡ is → m .is-state s ≡ true → Sound m b (cond is (ledger t n None) (ledger s n None))
   sound-found s t n true e h = sound-idle t n e
   sound-found s t n false e h = sound-idle s n h
 
   -- one call
-  sound-next : (s : S) (n : ℕ) (out : Option Order) (c : Call S) (a : Answer) → Says m v b (ledger s n out) c a → Sound m (ledger s n out) → Sound m (reckon m (ledger s n out) c a)
+  sound-next : (s : S) (n : ℕ) (out : Option Order) (c : Call S) (a : Answer) → Says m v b (ledger s n out) c a → Sound m b (ledger s n out) → Sound m b (reckon m (ledger s n out) c a)
   sound-next s n None (calls.Ask x y) (answers.Order o) says sound = sound-ordered s n o (sound .state) (due-when-advised m s (b - n) x y o (sound .state) (says .none refl))
   sound-next s n None (calls.Ask x y) answers.Reached says sound = sound
   sound-next s n None (calls.Ask x y) answers.NoWay says sound = sound
@@ -147,21 +147,21 @@ module _ {S F : Type 0} (m : Meaning S F) (law : Lawful m) (v : Shown S) (b : �
   sound-next s n None calls.Done a says sound = sound
   sound-next s n (Some o) calls.Done a says sound =
       let due = sound .order o refl in
-      sound-idle _ (n + 1) (ap (m .is-state) (moves-there m s o due) ∙ law .step-state s (o .action) _ (leads-there m s o due))
+      sound-idle _ (n + 1) (ap (m .is-state) (moves-there m s (b - n) o due) ∙ law .step-state s (o .action) _ (leads-there m s (b - n) o due))
   sound-next s n None calls.Failed a says sound = sound
   sound-next s n (Some o) calls.Failed a says sound = sound-idle s (n + 1) (sound .state)
   sound-next s n None (calls.Find t) a says sound = sound-found s t n (m .is-state t) refl (sound .state)
   sound-next s n (Some o) (calls.Find t) a says sound = sound
   sound-next s n out (calls.Show p) a says sound = sound
 
-  sound-run : (es : List (Event S)) (l : Ledger S) → Sound m l → Follows m v b l es → Sound m (reckoned m l es)
+  sound-run : (es : List (Event S)) (l : Ledger S) → Sound m b l → Follows m v b l es → Sound m b (reckoned m l es)
   sound-run [] l sound f = sound
   sound-run (e ∷ es) l sound f =
       sound-run es (reckon m l (e .call) (e .answer)) (sound-next (l .stands) (l .reports) (l .out) (e .call) (e .answer) (f .0) sound) (f .1)
 
   -- One call on the way: where d more reports that say 'done' lead to the goal, and this call and the marks that follow are
   -- just those, the marks that follow lead there from where the plant then stands.
-  toward-next : (s : S) (n : ℕ) (out : Option Order) (c : Call S) (a : Answer) (d : ℕ) (rest : List Mark) → Sound m (ledger s n out) → Distance m s d → mark m (ledger s n out) c ++ rest ≡ replicate d did → (k : ℕ) × Distance m (reckon m (ledger s n out) c a .stands) k × (rest ≡ replicate k did)
+  toward-next : (s : S) (n : ℕ) (out : Option Order) (c : Call S) (a : Answer) (d : ℕ) (rest : List Mark) → Sound m b (ledger s n out) → Distance m s d → mark m (ledger s n out) c ++ rest ≡ replicate d done → (k : ℕ) × Distance m (reckon m (ledger s n out) c a .stands) k × (rest ≡ replicate k done)
   toward-next s n None (calls.Ask x y) (answers.Order o) d rest sound far e = (d, far, e)
   toward-next s n None (calls.Ask x y) answers.Reached d rest sound far e = (d, far, e)
   toward-next s n None (calls.Ask x y) answers.NoWay d rest sound far e = (d, far, e)
@@ -172,21 +172,21 @@ module _ {S F : Type 0} (m : Meaning S F) (law : Lawful m) (v : Shown S) (b : �
   toward-next s n None calls.Done a d rest sound far e = (d, far, e)
   toward-next s n (Some o) calls.Done a d rest sound far e =
       let due = sound .order o refl in
-      let one = one-did d rest e in
+      let one = one-done d rest e in
       let less : o .steps - 1 ≡ one .0 = omega (arith, same-distance m s d (o .steps) far (due .distance), one .1) in
-      (one .0, subst (λ k. Distance m (moved (m .step s (o .action)) s) k) less (brought-nearer m s o due), one .2)
+      (one .0, subst (λ k. Distance m (moved (m .step s (o .action)) s) k) less (brought-nearer m s (b - n) o due), one .2)
   toward-next s n None calls.Failed a d rest sound far e = (d, far, e)
   toward-next s n (Some o) calls.Failed a d rest sound far e = absurd (not-failed d rest e)
   toward-next s n None (calls.Find t) a d rest sound far e = by-state (m .is-state t) e
     where
-      by-state : (is : Bool) → cond is (found ∷ []) [] ++ rest ≡ replicate d did → (k : ℕ) × Distance m (cond is (ledger t n None) (ledger s n None) .stands) k × (rest ≡ replicate k did)
+      by-state : (is : Bool) → cond is (found ∷ []) [] ++ rest ≡ replicate d done → (k : ℕ) × Distance m (cond is (ledger t n None) (ledger s n None) .stands) k × (rest ≡ replicate k done)
       by-state true f = absurd (not-found d rest f)
       by-state false f = (d, far, f)
   toward-next s n (Some o) (calls.Find t) a d rest sound far e = (d, far, e)
   toward-next s n out (calls.Show p) a d rest sound far e = (d, far, e)
 
   -- from distance d, a run with d accepted reports that all say 'done' and with no finding accepted ends at the goal
-  toward : (es : List (Event S)) (l : Ledger S) (d : ℕ) → Sound m l → Follows m v b l es → Distance m (l .stands) d → marks m l es ≡ replicate d did → m .at-goal (reckoned m l es .stands) ≡ true
+  toward : (es : List (Event S)) (l : Ledger S) (d : ℕ) → Sound m b l → Follows m v b l es → Distance m (l .stands) d → marks m l es ≡ replicate d done → m .at-goal (reckoned m l es .stands) ≡ true
   toward [] l d sound f far e = arrived m (l .stands) (subst (λ k. Distance m (l .stands) k) (none-left d e) far)
   toward (e ∷ es) l d sound f far said =
       let l′ = reckon m l (e .call) (e .answer) in
@@ -211,7 +211,7 @@ module _ {S F : Type 0} (m : Meaning S F) (law : Lawful m) (v : Shown S) (b : �
   follows-push (x ∷ xs) l e f says = (f .0, follows-push xs (reckon m l (x .call) (x .answer)) e (f .1) says)
 
   -- an order that was answered is out, and due
-  due-after : (s : S) (n : ℕ) (out : Option Order) (x y : ℕ) (o : Order) → Sound m (ledger s n out) → AskSays m b (ledger s n out) x y (answers.Order o) → Due m (reckon m (ledger s n out) (calls.Ask x y) (answers.Order o) .stands) o
+  due-after : (s : S) (n : ℕ) (out : Option Order) (x y : ℕ) (o : Order) → Sound m b (ledger s n out) → AskSays m b (ledger s n out) x y (answers.Order o) → Due m (reckon m (ledger s n out) (calls.Ask x y) (answers.Order o) .stands) (b - n) o
   due-after s n None x y o sound says = due-when-advised m s (b - n) x y o (sound .state) (says .none refl)
   due-after s n (Some p) x y o sound says = absurd (order-not-refused (says .out p refl))
 
@@ -222,12 +222,12 @@ module _ {S F : Type 0} (m : Meaning S F) (law : Lawful m) (v : Shown S) (b : �
 
   -- ---- the promise, for a run that begins at a ledger where all is in order
 
-  module _ (l : Ledger S) (first : Sound m l) (es : List (Event S)) (f : Follows m v b l es) where
+  module _ (l : Ledger S) (first : Sound m b l) (es : List (Event S)) (f : Follows m v b l es) where
     module _ (before rest : List (Event S)) (splits : es ≡ before ++ rest) where
       whole : Follows m v b l (before ++ rest)
       whole = subst (λ xs. Follows m v b l xs) splits f
 
-      sound-before : Sound m (reckoned m l before)
+      sound-before : Sound m b (reckoned m l before)
       sound-before = sound-run before l first (follows-front before rest l whole)
 
       after-before : Follows m v b (reckoned m l before) rest
@@ -237,7 +237,7 @@ module _ {S F : Type 0} (m : Meaning S F) (law : Lawful m) (v : Shown S) (b : �
     promised-asking before after x y a splits k at none hx hy =
         let rest = ask-event x y a ∷ after in
         let says = subst (λ z. AskSays m b z x y a) (sym at) (after-before before rest splits .0) in
-        let sound = subst (λ z. Sound m z) (sym at) (sound-before before rest splits) in
+        let sound = subst (λ z. Sound m b z) (sym at) (sound-before before rest splits) in
         says .none none .advice (sound .state) hx hy
 
     promised-arriving : Arriving m l es
@@ -251,19 +251,19 @@ module _ {S F : Type 0} (m : Meaning S F) (law : Lawful m) (v : Shown S) (b : �
         let here : k ≡ j′ = at ∙ reckoned-append before (ordering ∷ []) l in
         let due = due-after (j .stands) (j .reports) (j .out) x y o sound (follows .0) in
         let sound′ = sound-next (j .stands) (j .reports) (j .out) (calls.Ask x y) (answers.Order o) (follows .0) sound in
-        let end = toward during j′ (o .steps) sound′ (follows-front during after j′ (follows .1)) (due .distance) (subst (λ z. marks m z during ≡ replicate (o .steps) did) here said) in
+        let end = toward during j′ (o .steps) sound′ (follows-front during after j′ (follows .1)) (due .distance) (subst (λ z. marks m z during ≡ replicate (o .steps) done) here said) in
         ap (λ z. m .at-goal (reckoned m z during .stands)) here ∙ end
 
-    promised-standing : Standing m l es
+    promised-standing : Standing m b l es
     promised-standing before after splits k at =
-        let sound = subst (λ z. Sound m z) (sym at) (sound-before before after splits) in
+        let sound = subst (λ z. Sound m b z) (sym at) (sound-before before after splits) in
         (sound .state, sound .order)
 
     promised-nearing : Nearing m l es
     promised-nearing before after a splits k at o out =
         let due = promised-standing before (done-event a ∷ after) splits k at .1 o out in
         let next = done-moves (k .stands) (k .reports) (k .out) o a out in
-        (due .distance, subst (λ t. Distance m t (o .steps - 1)) (sym next) (brought-nearer m (k .stands) o due))
+        (due .distance, subst (λ t. Distance m t (o .steps - 1)) (sym next) (brought-nearer m (k .stands) (left b k) o due))
 
   pub promised : (es : List (Event S)) → Follows m v b (opening m) es → Promised m b (opening m) es
   promised es f =

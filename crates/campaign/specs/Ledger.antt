@@ -2,7 +2,6 @@
 use mathlib.Core.Bool.{cond}
 use mathlib.Core.List.{List, [], _∷_}
 use Prim.Native.Nat.{ℕ, _+_, _-_}
-use Rattle.std.specs.declared.option.Option.{Option}
 use Rattle.std.specs.declared.option.Option.the-variants.{None, Some}
 use Rattle.std.specs.declared.result.Result.{Result}
 use Rattle.std.specs.declared.result.Result.the-variants.{Ok, Err}
@@ -13,7 +12,6 @@ use Rattle.campaign.specs.declared.call.Call.{Call}
 use Rattle.campaign.specs.declared.call.Call.the-variants as calls
 use Rattle.campaign.specs.declared.call.Event.{Event}
 use Rattle.campaign.specs.declared.ledger.Ledger.{Ledger}
-use Rattle.campaign.specs.declared.order.Order.{Order}
 
 -- the plant stands at the model's start, with no report and no order
 abbrev pub opening : {S F : Type 0} → Meaning S F → Ledger S

@@ -1,6 +1,6 @@
+pub mod AdviceOf
 pub mod Answers
 pub mod Asked
-pub mod Heading
 pub mod Leaves
 pub mod Ledger
 pub mod Number

@@ -23,16 +23,16 @@ abbrev pub Follows : {S F : Type 0} → Meaning S F → Shown S → ℕ → Ledg
 Follows m v b l [] = Unit {0}
 Follows m v b l (e ∷ es) = Says m v b l (e .call) (e .answer) × Follows m v b (reckon m l (e .call) (e .answer)) es
 
--- what an accepted report or finding leaves behind
+-- the kind of an accepted report or finding
 pub data Mark : Type 0 where
-  did : Mark
+  done : Mark
   failed : Mark
   found : Mark
 
 -- the mark of a call: none where it is refused, asks or shows
 abbrev pub mark : {S F : Type 0} → Meaning S F → Ledger S → Call S → List Mark
 mark m l (calls.Ask x y) = []
-mark m l calls.Done = elim (l .out) [ None ↦ [] | Some o ↦ did ∷ [] ]
+mark m l calls.Done = elim (l .out) [ None ↦ [] | Some o ↦ done ∷ [] ]
 mark m l calls.Failed = elim (l .out) [ None ↦ [] | Some o ↦ failed ∷ [] ]
 mark m l (calls.Find s) = elim (l .out) [ None ↦ cond (m .is-state s) (found ∷ []) [] | Some o ↦ [] ]
 mark m l (calls.Show p) = []
@@ -65,23 +65,24 @@ Arriving {S} m l es =
     (before during after : List (Event S)) (states actions : ℕ) (o : Order) →
     es ≡ before ++ (ask-event states actions (answers.Order o) ∷ (during ++ after)) →
     (k : Ledger S) → k ≡ reckoned m l (before ++ (ask-event states actions (answers.Order o) ∷ [])) →
-    0 < o .steps → marks m k during ≡ replicate (o .steps) did →
+    0 < o .steps → marks m k during ≡ replicate (o .steps) done →
     m .at-goal (reckoned m k during .stands) ≡ true
 
--- An order that is right where the plant stands at s: its action begins a list of its steps that leads to the goal, and no
--- shorter list does.
-pub record Due {S F : Type 0} (m : Meaning S F) (s : S) (o : Order) : Type 0 where
+-- An order that is right where the plant stands at s with r steps left: its action begins a list of as many actions as it has
+-- steps that leads to the goal, no shorter list does, and that many steps are left.
+pub record Due {S F : Type 0} (m : Meaning S F) (s : S) (r : ℕ) (o : Order) : Type 0 where
   pub positive : 0 < o .steps
+  pub within : o .steps ≤ r
   pub distance : Distance m s (o .steps)
   pub begins : Begins m s (o .steps) (o .action)
 
 -- Wherever the run has come to, the plant stands at a state, and the order out, if there is one, is right there.
-abbrev pub Standing : {S F : Type 0} → Meaning S F → Ledger S → List (Event S) → Type 0
-Standing {S} m l es =
+abbrev pub Standing : {S F : Type 0} → Meaning S F → ℕ → Ledger S → List (Event S) → Type 0
+Standing {S} m b l es =
     (before after : List (Event S)) →
     es ≡ before ++ after →
     (k : Ledger S) → k ≡ reckoned m l before →
-    (m .is-state (k .stands) ≡ true) × ((o : Order) → k .out ≡ Some o → Due m (k .stands) o)
+    (m .is-state (k .stands) ≡ true) × ((o : Order) → k .out ≡ Some o → Due m (k .stands) (left b k) o)
 
 -- An order that is done brings the goal one step nearer.
 abbrev pub Nearing : {S F : Type 0} → Meaning S F → Ledger S → List (Event S) → Type 0
@@ -96,7 +97,7 @@ Nearing {S} m l es =
 pub record Promised {S F : Type 0} (m : Meaning S F) (b : ℕ) (l : Ledger S) (es : List (Event S)) : Type 0 where
   pub asking : Asking m b l es
   pub arriving : Arriving m l es
-  pub standing : Standing m l es
+  pub standing : Standing m b l es
   pub nearing : Nearing m l es
 
 -- The promise, where the ledger is l: it holds of every run of calls from there, however the model is shown.

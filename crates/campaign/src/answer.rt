@@ -29,7 +29,7 @@ pub enum Answer {
     Order(Order),
     Reached,
     NoWay,
-    // A report or a finding was accepted; so many reports were by then.
+    // A report or a finding was accepted; so many reports were accepted by then.
     Accepted(u16),
     // The number shown.
     Number(u16),

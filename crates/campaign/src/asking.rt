@@ -3,7 +3,7 @@ ghost use mathlib.Core.Path.{_≡_};
 ghost use Prim.Native.Nat.{_≤_};
 ghost use Rattle.campaign.specs.Answers.{of-ask};
 ghost use Rattle.campaign.specs.Asked.{Asked};
-ghost use Rattle.campaign.specs.Heading.{heading};
+ghost use Rattle.campaign.specs.AdviceOf.{advice-of};
 ghost use Rattle.campaign.specs.Leaves.{Leaves};
 ghost use Rattle.campaign.specs.Ledger.{left};
 ghost use Rattle.campaign.specs.Says.{Advised, AskSays};
@@ -64,7 +64,7 @@ fn advise<M: Model>(
 
 // The first of the actions as an order; where there is none, the goal is reached.
 fn head(actions: &mut Trail<u16>, steps: u16) -> Advice
-    ensures value { λ r. ⌜ r ≡ heading (held (now (actions .entry))) steps ⌝ }
+    ensures value { λ r. ⌜ r ≡ advice-of (held (now (actions .entry))) steps ⌝ }
     ensures same { λ _. ⌜ now (actions .exit) ≡ now (actions .entry) ⌝ }
 {
     match actions.get(0) {

@@ -13,9 +13,9 @@ pub enum CampaignFault {
     OrderOut,
     // No order is out that could be reported on.
     NoOrder,
-    // The trail of states has fewer places than steps left and one more.
+    // The trail of states has fewer than r + 1 places, r being the steps left.
     FewStates,
-    // The trail of actions has fewer places than steps left.
+    // The trail of actions has fewer than r places.
     FewActions,
 }
 

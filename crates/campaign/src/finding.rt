@@ -1,5 +1,4 @@
 // Findings: where the plant was found to stand.
-ghost use mathlib.Core.Path.{_≡_};
 ghost use Rattle.campaign.specs.Answers.{of-report};
 ghost use Rattle.campaign.specs.Leaves.{Leaves};
 ghost use Rattle.campaign.specs.Says.{FindSays};

@@ -37,7 +37,7 @@ pub use order::Order;
 pub use order::OrderDebug;
 pub use order::OrderPartialEq;
 
-// It holds a model, the bound as it is read, and the ledger.
+// A campaign holds a model, the bound as it is read, and the ledger.
 #[derive(Drop)]
 pub struct Campaign<M: Model> {
     model: M,
@@ -45,5 +45,5 @@ pub struct Campaign<M: Model> {
     ledger: Ledger<M::State>,
     ghost read: { bound ≤ 24 },
     // An order is given only while steps are left for it.
-    ghost due: { isSome (ledger .out) ≡ true → ledger .reports < bound },
+    ghost unspent: { isSome (ledger .out) ≡ true → ledger .reports < bound },
 }

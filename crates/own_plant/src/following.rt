@@ -29,7 +29,7 @@ use replay::replay;
 use std::io;
 use trail::Trail;
 
-// How many steps the crew may take.
+// How many reports the crew has, those of steps tried in vain among them.
 const BOUND: u16 = 9;
 
 const CALLS: usize = 36;
@@ -45,7 +45,7 @@ const WINDOW_LEFT_OPEN: Plant = Plant {
 };
 
 // A crew that works to the goal with one step tried in vain, finds the window open again, and uses up its reports.
-fn crew(hall: &Hall) -> [Call<Plant>; CALLS] {
+fn crew_calls(hall: &Hall) -> [Call<Plant>; CALLS] {
     let start = hall.start();
     let ask = Call::Ask {
         states: STATES,
@@ -246,7 +246,7 @@ fn print_calls(
 // Follows a campaign call by call, and replays it.
 pub fn print_campaign(rt: &LibcRuntime, hall: &Hall) -> io::Result<()> {
     println!(rt, "A campaign of at most {BOUND} steps.")?;
-    let calls = crew(hall);
+    let calls = crew_calls(hall);
     let blank = Event {
         call: Call::Done,
         answer: Answer::NoWay,

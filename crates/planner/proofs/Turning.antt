@@ -12,7 +12,7 @@ use Rattle.trail.proofs.Effects.{kept-same, kept-trans, kept-fewer}
 use Rattle.trail.specs.Held.{held, room, KeptFrom}
 use Rattle.trail.specs.declared.Trail.{Trail}
 use Rattle.planner.specs.Leads.{Passes, First}
-use Rattle.planner.specs.Search.{Progress, Tries, Backs, Turned, last-or, turns}
+use Rattle.planner.specs.Search.{Progress, Tries, Backs, Turned, last-or}
 use Rattle.planner.specs.declared.planning.Turn.{Turn}
 use Rattle.planner.specs.declared.planning.Turn.the-variants.{Found, Spent, Next}
 use Rattle.planner.proofs.Lasts.{split-last}

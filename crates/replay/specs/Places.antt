@@ -16,7 +16,7 @@ Unplanned (Accepted n) = Unit {0}
 Unplanned (Number n) = Unit {0}
 Unplanned (Refused f) = Unit {0}
 
--- no call of the log did
+-- no call of the log planned
 abbrev pub NonePlanned : {S : Type 0} → List (Event S) → Type 0
 NonePlanned [] = Unit {0}
 NonePlanned (e ∷ es) = Unplanned (e .answer) × NonePlanned es

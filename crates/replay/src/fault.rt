@@ -1,5 +1,5 @@
 // Why a replay is refused.
-ghost use Prim.Native.Nat.{ℕ};
+ghost use Rattle.replay.specs.Number.{number};
 use model::Cause;
 
 // The log has fewer places than there are calls. The model is handed back.
@@ -9,7 +9,7 @@ pub struct ShortLog<M> {
 }
 
 pub impl<M> Cause for ShortLog<M> as ShortLogCause {
-    ghost told = { λ _. 14 };
+    ghost told = { number };
 
     fn number(&self) -> u16 {
         14

@@ -1,5 +1,4 @@
 // Replaying: carrying out a list of calls on a fresh campaign, with a log of the answers that it really gives.
-ghost use mathlib.Core.Path.{_≡_};
 ghost use Rattle.planner.specs.Planned.{bound-read};
 ghost use Rattle.replay.specs.Replayed.{ReplaySays};
 

@@ -1,6 +1,6 @@
 -- What adding, taking and emptying do to a trail and to every lent place.
 use mathlib.Core.Path.{_≡_}
-use mathlib.Core.List.{List, [], _∷_, _++_}
+use mathlib.Core.List.{[], _∷_, _++_}
 use Prim.Native.Nat.{ℕ, _+_, _<_, _≤_}
 use denote.Ref.{now, name}
 use lib.ListN.{length, set}

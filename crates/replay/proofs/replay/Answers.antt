@@ -1,10 +1,11 @@
 use mathlib.Core.List.{[], _∷_, _++_}
 use mathlib.Core.Path.{_≡_, refl, sym, ap, subst, subst₂, _∙_}
-use Prim.Native.Nat.{_+_, _≤_, _<_}
+use Prim.Native.Nat.{_+_, _<_}
 use native.Mathlib.Omega.{arith}
 use lib.ListN.{length, drop}
 use Rattle.trail.proofs.Effects.{kept-refl, kept-same, kept-trans, kept-added, kept-cleared, pushed-added}
 use Rattle.trail.specs.Held.{held, room}
+use Rattle.campaign.proofs.Runs.{promised}
 use Rattle.campaign.specs.Ledger.{opening, reckon}
 use Rattle.campaign.specs.Says.{Says}
 use Rattle.campaign.specs.declared.call.Event.{Event}
@@ -81,7 +82,7 @@ returns g c =
     record {
       fits = omega (arith, c .room .ensures .value, c .if-room-calls .left);
       logged = logged m law v (first .bound) (length ss) (length xs) cs (c .loop-call .call-index) (held log′) (c .loop-call .campaign .ledger) (c .loop-call-test .left) (inv .0);
-      campaign = record { model-same = inv .1; bound-same = inv .2; ledger = inv .0 .ledger };
+      campaign = record { model-same = inv .1; bound-same = inv .2; ledger = inv .0 .ledger; promise = λ v es f. promised m law v (first .bound) es f };
       places = inv .3;
       log-kept = kept-trans cleared (inv .4);
     } in

@@ -5,6 +5,6 @@ use Rattle.campaign.specs.declared.answer.Advice.{Advice}
 use Rattle.campaign.specs.declared.answer.Advice.the-variants as advice
 
 -- the first of the actions is ordered, with the steps; where there is none, the goal is reached
-abbrev pub heading : List ℕ → ℕ → Advice
-heading [] d = advice.Reached
-heading (x ∷ xs) d = advice.Order (record { action = x; steps = d })
+abbrev pub advice-of : List ℕ → ℕ → Advice
+advice-of [] d = advice.Reached
+advice-of (x ∷ xs) d = advice.Order (record { action = x; steps = d })
