@@ -1,1 +1,2 @@
+mod Agreements
 mod Lending

@@ -3,6 +3,7 @@ ghost use lib.ListN.{length};
 ghost use Rattle.campaign.specs.Leaves.{Leaves};
 ghost use Rattle.campaign.specs.Says.{Says};
 ghost use Rattle.hall.specs.Hall.{hall-meaning, hall-shown};
+ghost use Rattle.own_plant.specs.Agreeing.{Same, Agrees};
 ghost use Rattle.replay.specs.Logged.{limited};
 use super::ACTIONS;
 use super::STATES;
@@ -177,13 +178,21 @@ fn print_answer(rt: &LibcRuntime, answer: Answer) -> io::Result<()> {
     println!(rt, ": {answer}")
 }
 
+fn same(answer: Answer, other: Answer) -> bool
+    ensures { λ r. ⌜ Same answer other r ⌝ }
+{
+    answer == other
+}
+
 // Whether two logs have the same answers.
-fn agrees(log: &[Event<Plant>], other: &[Event<Plant>]) -> bool {
+fn agrees(log: &[Event<Plant>], other: &[Event<Plant>]) -> bool
+    ensures { λ r. ⌜ Agrees (now (log .entry)) (now (other .entry)) r ⌝ }
+{
     if log.len() != other.len() {
         return false;
     }
-    for (event, again) in log.iter().zip(other) {
-        if event.answer != again.answer {
+    for i in 0..log.len() {
+        if !same(log[i].answer, other[i].answer) {
             return false;
         }
     }
