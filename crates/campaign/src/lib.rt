@@ -1,4 +1,6 @@
 // Following a campaign: a crew asks for the next step, carries it out and reports; the campaign keeps the ledger.
+#![tactic(auto)]
+
 ghost use Rattle.std.specs.Prelude.{◌≡◌, ◌<◌, ◌≤◌, true, is_some};
 
 mod answer;

@@ -1,4 +1,6 @@
 // Tests of campaigns and of replaying, on a small model.
+#![tactic(auto)]
+
 #[cfg(test)]
 mod tests {
     use campaign::{Advice, Answer, Call, Campaign, CampaignFault, Event, Order};

@@ -1,10 +1,12 @@
 // A small model, for tests: it counts from 0 up to a goal, action a adds a, and no state is above 999.
+#![tactic(auto)]
+
 ghost use Rattle.std.specs.Prelude.{◌≡◌, ◌≤◌, min};
 ghost use Rattle.counter.specs.Counting.{counting, count_shown};
 ghost use Rattle.counter.specs.Number.{number};
 ghost use Rattle.std.proofs.Common.{rules, arith};
 
-use model::{Cause, Model, ShownModel};
+use model::{Cause, Model as PlantModel, ShownModel};
 
 // The highest state.
 const TOP: u16 = 999;
@@ -36,7 +38,7 @@ impl Counter {
     }
 }
 
-pub impl Model for Counter as CounterModel {
+impl PlantModel for Counter {
     type State = u16;
 
     type Fault = CounterFault;

@@ -8,7 +8,7 @@ ghost use Rattle.std.proofs.Common.{rules};
 use super::fault::HallFault;
 use super::job::Job;
 use super::plant::{Chain, Plant, Store, Window};
-use model::{Model, ShownModel};
+use model::{Model as PlantModel, ShownModel};
 
 // How many jobs there are, and how many numbers describe the hall.
 const JOBS: u16 = 9;
@@ -131,7 +131,7 @@ fn after(s: Plant, job: Job) -> Result<Plant, HallFault>
     Ok(done(s, job))
 }
 
-pub impl Model for Hall as HallModel {
+impl PlantModel for Hall {
     type State = Plant;
 
     type Fault = HallFault;

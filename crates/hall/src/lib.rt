@@ -1,5 +1,7 @@
 // A customer's own plant, written as a model: a hall with two gateways and three presses.
 // Presses 1 and 2 hang on gateway 1, press 3 on gateway 2. The hall is rolled over to a new certificate chain.
+#![tactic(auto)]
+
 mod as_model;
 mod fault;
 mod job;

@@ -1,4 +1,6 @@
 // The model interface: what a plant is to everything that plans, checks or follows it.
+#![tactic(auto)]
+
 ghost use Rattle.std.specs.Prelude.{◌≡◌, ℕ};
 ghost use Rattle.model.specs.Meaning.{Meaning, Lawful};
 ghost use Rattle.model.specs.Shown.{Shown, Legible};

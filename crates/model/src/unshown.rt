@@ -2,7 +2,7 @@
 ghost use Rattle.model.specs.Shown.{nothing_shown};
 ghost use Rattle.std.proofs.Common.{rules};
 
-use super::{Model, ShownModel};
+use super::{Model as PlantModel, ShownModel};
 
 // How many numbers are shown.
 const PLACES: u16 = 0;
@@ -13,7 +13,7 @@ pub struct Unshown<M> {
     pub model: M,
 }
 
-pub impl<M: Model> Model for Unshown<M> as UnshownModel {
+impl<M: PlantModel> PlantModel for Unshown<M> {
     type State = M::State;
 
     type Fault = M::Fault;
@@ -43,7 +43,7 @@ pub impl<M: Model> Model for Unshown<M> as UnshownModel {
     }
 }
 
-impl<M: Model> ShownModel for Unshown<M> {
+impl<M: PlantModel> ShownModel for Unshown<M> {
     ghost shown = { λ _. nothing_shown };
 
     ghost legible = { Prim.search rules };

@@ -1,5 +1,7 @@
 // A customer's own plant under the planner: plans its rollover, checks lists of actions, follows a campaign, and prints what
 // it did.
+#![tactic(auto)]
+
 ghost use Rattle.own_plant.specs.Lent.{Lent};
 ghost use Rattle.planner.specs.Planned.{bound_read};
 

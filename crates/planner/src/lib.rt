@@ -1,4 +1,6 @@
 // Planning and checking, written once for every model.
+#![tactic(auto)]
+
 mod checking;
 mod fault;
 mod planning;

@@ -1,4 +1,6 @@
 // Tests of trails, planning and checking on small models.
+#![tactic(auto)]
+
 #[cfg(test)]
 mod tests {
     use counter::{Counter, CounterFault};

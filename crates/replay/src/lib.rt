@@ -1,4 +1,6 @@
 // Replaying: carrying out a list of calls on a fresh campaign, with a log of the answers that it really gives.
+#![tactic(auto)]
+
 ghost use Rattle.planner.specs.Planned.{bound_read};
 ghost use Rattle.replay.specs.Replayed.{ReplaySays};
 

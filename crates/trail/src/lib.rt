@@ -1,4 +1,6 @@
 // A trail: a list of elements over places that the caller lends. It adds and takes at its end, and owns no memory.
+#![tactic(auto)]
+
 ghost use Rattle.std.specs.Prelude.{◌≡◌, length, take};
 ghost use Rattle.trail.specs.Item.{Item};
 ghost use Rattle.trail.specs.Places.{Puts, Last};
