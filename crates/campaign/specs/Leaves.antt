@@ -1,6 +1,7 @@
 -- What a call leaves of a campaign.
 use Rattle.std.specs.Prelude.{◌≡◌}
 use Rattle.model.specs.Meaning.{Meaning}
+use Rattle.model.specs.declared.Model.{Ghosts}
 use Rattle.campaign.specs.Ledger.{reckon}
 use Rattle.campaign.specs.declared.Campaign.{Campaign}
 use Rattle.campaign.specs.declared.answer.Answer.{Answer}
@@ -9,7 +10,7 @@ use Rattle.campaign.specs.declared.call.Call.{Call}
 use Rattle.campaign.specs.declared.fault.CampaignFault.{CampaignFault}
 
 -- The campaign c, whose model means m, is c' after the call, which was answered by a.
-pub record Leaves {M S F : Type 0} (m : Meaning S F) (c : Campaign M S F) (call : Call S) (a : Answer) (c' : Campaign M S F) : Type 0 where
+pub record Leaves {M S F : Type 0} {G : Ghosts M S F} (m : Meaning S F) (c : Campaign M S F G) (call : Call S) (a : Answer) (c' : Campaign M S F G) : Type 0 where
   pub ledger : c'.ledger ≡ reckon m c.ledger call a
   pub model : c'.model ≡ c.model
   pub bound : c'.bound ≡ c.bound
