@@ -5,7 +5,7 @@
 mod tests {
     use campaign::{Advice, Answer, Call, Campaign, CampaignFault, Event, Order};
     use counter::Counter;
-    use model::{Cause, Model, ShownModel, Unshown, UnshownModel};
+    use model::{Cause, Model, ShownModel, Unshown};
     use replay::replay;
     use std::test::Fail;
     use trail::Trail;

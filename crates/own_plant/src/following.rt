@@ -8,7 +8,7 @@ ghost use Rattle.replay.specs.Logged.{limited};
 
 use super::{ACTIONS, STATES};
 use campaign::{Answer, Call, Campaign, Event, Order};
-use hall::{Chain, Hall, HallModel, Job, Plant, Store, Window};
+use hall::{Chain, Hall, Job, Plant, Store, Window};
 use model::{Cause, Model, ShownModel};
 use replay::replay;
 use std::io;

@@ -8,7 +8,7 @@ ghost use Rattle.planner.specs.Planned.{bound_read};
 mod following;
 
 use following::print_campaign;
-use hall::{Hall, HallFault, HallModel, Job, Plant, Window};
+use hall::{Hall, HallFault, Job, Plant, Window};
 use model::{Cause, Model, ShownModel};
 use planner::{CheckFault, PlanAnswer, PlanFault, check, plan};
 use std::io;
