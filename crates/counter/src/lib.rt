@@ -4,7 +4,7 @@
 ghost use Rattle.std.specs.Prelude.{◌≡◌, ◌≤◌, min};
 ghost use Rattle.counter.specs.Counting.{counting, count_shown};
 ghost use Rattle.counter.specs.Number.{number};
-ghost use Rattle.std.proofs.Common.{rules, arith};
+ghost use Rattle.std.proofs.Common.{rules};
 
 use model::{Cause, Model as PlantModel, ShownModel};
 
@@ -45,7 +45,7 @@ impl PlantModel for Counter {
 
     ghost meaning = { λ c. counting c.actions c.goal };
 
-    ghost lawful = { first_of (Prim.search rules, Prim.grind (arith, Self.row.coded.inj)) };
+    ghost lawful = { Prim.search rules };
 
     fn actions(&self) -> u16 {
         self.actions
@@ -80,7 +80,7 @@ impl PlantModel for Counter {
 impl ShownModel for Counter {
     ghost shown = { λ _. count_shown };
 
-    ghost legible = { first_of (Prim.search rules, Prim.grind (arith, Self.row.coded.inj)) };
+    ghost legible = { Prim.search rules };
 
     fn places(&self) -> u16 {
         1

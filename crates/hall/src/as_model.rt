@@ -166,7 +166,7 @@ impl PlantModel for Hall {
 
     fn step(&self, s: Plant, action: u16) -> Result<Plant, HallFault>
         ensures value { result ≡ hall_meaning.step s action }
-        ensures ok { IfOk result (λ t. Rules s t) }
+        ensures rules { IfOk result (λ t. Rules s t) }
     {
         let Some(job) = Job::of(action) else {
             return Err(HallFault::NoSuchJob);
