@@ -1,10 +1,12 @@
 -- What a walk along a list of actions comes to. Assumes nothing.
-use Rattle.std.proofs.Common.{◌≡◌, ℕ, ◌+◌, ◌<◌, ◌≤◌, List, [], ◌∷◌, ◌++◌, length, get_or, take, drop, Ok, Err, sym, ap, ◌∙◌, subst, append-nil, arith, length-take}
+use Rattle.std.proofs.Common.{◌≡◌, ℕ, ◌+◌, ◌<◌, ◌≤◌, List, [], ◌∷◌, ◌++◌, length, get_or, take, drop, Ok, Err, Result, sym, refl, ap, ◌∙◌, subst, append-nil, arith, length-take}
 use Rattle.std.proofs.lemmas.List.{take-append-drop, take_more, take_all, drop_more}
 use Rattle.model.specs.Meaning.{Meaning}
 use Rattle.planner.specs.Checked.{Stops}
 use Rattle.planner.specs.Leads.{Leads, Reaches}
-use Rattle.planner.specs.Walked.{Arrives, Broken}
+use Rattle.planner.specs.Walked.{Arrives, Broken, placed}
+use Rattle.planner.specs.declared.fault.CheckFault.{CheckFault}
+use Rattle.planner.specs.declared.fault.CheckFault.TheVariants.{Step}
 use Rattle.planner.proofs.Ways.{ok_not_err, leads_reached, leads_rest, reaches_push}
 
 module _ {S F : Type 0} (m : Meaning S F) (s : S) (xs : List ℕ) where
@@ -46,3 +48,12 @@ module _ {S F : Type 0} (m : Meaning S F) (s : S) (xs : List ℕ) where
         leads = leads_reached m s t xs whole;
         only = λ l. leads_rest m s t xs [] whole (subst (λ ys. Leads m s ys) (sym (append-nil xs)) l);
       }
+
+-- what a placed step says of the step
+pub placed_ok : {S F : Type 0} (r : Result S F) (place : ℕ) (t : S) → placed place r ≡ Ok t → r ≡ Ok t
+placed_ok (Ok u) place t e = cc
+placed_ok (Err f) place t e = let z : ◌≡◌ {A = ℕ} 0 1 = cc in absurd (omega arith)
+
+pub placed_err : {S F : Type 0} (r : Result S F) (place : ℕ) (e : CheckFault F) → placed place r ≡ Err e → (f : F) × (r ≡ Err f) × (e ≡ Step place f)
+placed_err (Ok u) place e h = let z : ◌≡◌ {A = ℕ} 0 1 = cc in absurd (omega arith)
+placed_err (Err f) place e h = (f, refl, cc)

@@ -1,5 +1,6 @@
 mod Checks
 mod Lasts
+mod Paths
 mod Plans
 mod Progress
 mod Turning

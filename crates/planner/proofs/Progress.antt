@@ -1,10 +1,9 @@
 -- What each turn of the depth-first search keeps true. Assumes nothing.
-use Rattle.std.proofs.Common.{◌≡◌, ℕ, ◌+◌, ◌<◌, ◌≤◌, true, false, ◌⊎◌, List, [], ◌∷◌, ◌++◌, length, Ok, Err, Result, sym, refl, ap, ◌∙◌, subst, inl, inr, append_assoc, arith, length-append}
+use Rattle.std.proofs.Common.{◌≡◌, ℕ, ◌+◌, ◌<◌, ◌≤◌, true, false, ◌⊎◌, List, [], ◌∷◌, ◌++◌, length, Ok, Err, sym, refl, ap, ◌∙◌, subst, inl, inr, append_assoc, arith, length-append}
 use native.Mathlib.Decide.{dec_lt}
 use Rattle.model.specs.Meaning.{Meaning, Lawful}
 use Rattle.planner.specs.Leads.{Leads, Reaches, NotAfter, First}
-use Rattle.planner.specs.Search.{Tried, Progress, NoneOf, Tries}
-use Rattle.planner.specs.declared.planning.Turn.TheVariants.{Next}
+use Rattle.planner.specs.Search.{Tried, Progress, NoneOf}
 use Rattle.planner.proofs.Ways.{ok_not_err, true_not_false, allowed_within, allowed_positive, leads_rest, leads_reached, passes_last, passes_push, passes_pop, passes_step}
 
 -- of two lists of one length, the first is not after the second, or the second was tried before it
@@ -151,7 +150,3 @@ module _ {S F : Type 0} (m : Meaning S F) (law : Lawful m) (s : S) (k : ℕ) whe
         | inl before ↦ p.vain xs c (tried_below path xs a next before) l
         | inr on ↦ let e = on.1 ∙ sym (append_assoc path (a ∷ []) on.0) in goes_on on.0 (sym (ap length e) ∙ c) (subst (λ ys. Leads m s ys) e l)
       ]
-
--- an action that is allowed lengthens the path
-pub tries_allowed : {S F : Type 0} (r : Result S F) (t : S) (ss ss' : List S) (path path' : List ℕ) (next : ℕ) → Ok t ≡ r → ss' ≡ ss ++ (t ∷ []) → path' ≡ path ++ (next ∷ []) → Tries r ss path next (Next 1) ss' path'
-tries_allowed r t ss ss' path path' next e grown longer = subst (λ q. Tries q ss path next (Next 1) ss' path') e (refl, grown, longer)

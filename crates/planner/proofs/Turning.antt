@@ -1,13 +1,13 @@
 -- What one turn of the search comes to, by the part of it that was taken. Assumes nothing.
 use Rattle.std.proofs.Common.{◌≡◌, ℕ, ◌+◌, ◌<◌, ◌≤◌, true, false, List, [], ◌∷◌, ◌++◌, length, Ok, Err, Result, sym, refl, ap, ◌∙◌, subst, subst₂, append-nil, arith, length-append}
 use Rattle.model.specs.Meaning.{Meaning, Lawful}
-use Rattle.trail.proofs.Effects.{kept_same, kept_trans, kept_fewer}
-use Rattle.trail.specs.Held.{held, room, KeptFrom}
-use Rattle.trail.specs.declared.Trail.{Trail}
 use Rattle.planner.specs.Leads.{Passes, First}
-use Rattle.planner.specs.Search.{Progress, Tries, Backs, Turned, last_or}
-use Rattle.planner.specs.declared.planning.Turn.{Turn}
-use Rattle.planner.specs.declared.planning.Turn.TheVariants.{Found, Spent, Next}
+use Rattle.planner.specs.Path.{taken, passed, CanGrow, HasRoom, KeptPast, last_or}
+use Rattle.planner.specs.declared.path.Path.{Path}
+use Rattle.planner.proofs.Paths.{kept_same, kept_trans, kept_fewer}
+use Rattle.planner.specs.Search.{Progress, Tries, Backs, Turned}
+use Rattle.planner.specs.declared.search.Turn.{Turn}
+use Rattle.planner.specs.declared.search.Turn.TheVariants.{Found, Spent, Next}
 use Rattle.planner.proofs.Lasts.{split_last}
 use Rattle.planner.proofs.Progress as progress
 use Rattle.planner.proofs.Turns.{fewer_deeper, fewer_beside, fewer_back}
@@ -18,8 +18,8 @@ module _ {S F : Type 0} (m : Meaning S F) (law : Lawful m) (s : S) (k : ℕ) (pa
   counted = passes_length m s path ss p.passes
 
   -- every action of the path is one of 1 to A
-  path_few : (front : List ℕ) (a : ℕ) → path ≡ front ++ (a ∷ []) → a ≤ 200
-  path_few front a e =
+  few : (front : List ℕ) (a : ℕ) → path ≡ front ++ (a ∷ []) → a ≤ 200
+  few front a e =
       let last = passes_step m s front ss a (subst (λ l. Passes m s l ss) e p.passes) in
       omega (arith, allowed_within m law last.0 last.1 a last.3, law.few)
 
@@ -36,10 +36,10 @@ module _ {S F : Type 0} (m : Meaning S F) (law : Lawful m) (s : S) (k : ℕ) (pa
     turn_finds e goal =
         subst (λ l. First m s k path l) (sym split.1) (progress.finds m law s k path split.0 at next ahead e goal)
 
-    pub spent_whole : length path ≡ k → m.at_goal at ≡ false → progress.Spent m k path at next
+    spent_whole : length path ≡ k → m.at_goal at ≡ false → progress.Spent m k path at next
     spent_whole = progress.spent_whole m law s k path split.0 at next ahead
 
-    pub spent_level : length path < k → m.actions < next → progress.Spent m k path at next
+    spent_level : length path < k → m.actions < next → progress.Spent m k path at next
     spent_level = progress.spent_level m law s k path split.0 at next ahead
 
     turn_backs : progress.Spent m k path at next → (r : Turn) (ss' : List S) (path' : List ℕ) → Backs ss path r ss' path' → Turned m s k path next r path' ss'
@@ -71,35 +71,46 @@ module _ {S F : Type 0} (m : Meaning S F) (law : Lawful m) (s : S) (k : ℕ) (pa
     turn_tries : length path < k → next ≤ m.actions → (r : Turn) (ss' : List S) (path' : List ℕ) → Tries (m.step at next) ss path next r ss' path' → Turned m s k path next r path' ss'
     turn_tries = turn_tries_by (m.step at next) refl
 
--- The same over trails that were only asked in between.
-module _ {S F : Type 0} (m : Meaning S F) (law : Lawful m) (s : S) (k : ℕ) (states states₁ : Trail S) (actions actions₁ : Trail ℕ) (next : ℕ) (p : Progress m s k (held actions) (held states) next) (states_same : states₁ ≡ states) (actions_same : actions₁ ≡ actions) where
-  pub asked_few : (front : List ℕ) (a : ℕ) → held actions₁ ≡ front ++ (a ∷ []) → a ≤ 200
-  asked_few front a e = path_few m law s k (held actions) (held states) next p front a (ap held (sym actions_same) ∙ e)
+-- The same on a path p that was only asked since it was q.
+module _ {S F : Type 0} {m : Meaning S F} (law : Lawful m) {s : S} {k : ℕ} {q p : Path S} (same : p ≡ q) {next : ℕ} (h : Progress m s k (taken q) (passed q) next) where
+  now : Progress m s k (taken p) (passed p) next
+  now = subst (λ x. Progress m s k (taken x) (passed x) next) (sym same) h
 
-  pub asked_room : k + 1 ≤ room states → k ≤ room actions → length (held actions) < k → (length (held states₁) < room states₁) × (length (held actions₁) < room actions₁)
-  asked_room rs ra shorter =
-      let c = counted m law s k (held actions) (held states) next p in
-      (subst (λ t. length (held t) < room t) (sym states_same) (omega arith), subst (λ t. length (held t) < room t) (sym actions_same) (omega arith))
+  lengths : length (taken p) ≡ length (taken q)
+  lengths = ap (λ x. length (taken x)) same
 
-  module _ (at : S) (ends : at ≡ last_or (held states) s) where
-    pub asked_finds : length (held actions) ≡ k → m.at_goal at ≡ true → First m s k (held actions₁) (held states₁)
-    asked_finds e goal =
-        subst₂ (λ t u. First m s k (held t) (held u)) (sym actions_same) (sym states_same)
-        (turn_finds m law s k (held actions) (held states) next p at ends e goal)
+  since : (r : Turn) (p' : Path S) → Turned m s k (taken p) next r (taken p') (passed p') → Turned m s k (taken q) next r (taken p') (passed p')
+  since r p' = subst (λ x. Turned m s k (taken x) next r (taken p') (passed p')) same
 
-    pub asked_backs : progress.Spent m k (held actions) at next → (r : Turn) (states' : Trail S) (actions' : Trail ℕ) → Backs (held states₁) (held actions₁) r (held states') (held actions') → Turned m s k (held actions) next r (held actions') (held states')
-    asked_backs spent r states' actions' h =
-        turn_backs m law s k (held actions) (held states) next p at ends spent r (held states') (held actions')
-        (subst₂ (λ t u. Backs (held t) (held u) r (held states') (held actions')) states_same actions_same h)
+  pub path_few : (front : List ℕ) (a : ℕ) → taken p ≡ front ++ (a ∷ []) → a ≤ 200
+  path_few = few m law s k (taken p) (passed p) next now
 
-    pub asked_tries : length (held actions) < k → next ≤ m.actions → (r : Turn) (states' : Trail S) (actions' : Trail ℕ) → Tries (m.step at next) (held states₁) (held actions₁) next r (held states') (held actions') → Turned m s k (held actions) next r (held actions') (held states')
-    asked_tries shorter low r states' actions' h =
-        turn_tries m law s k (held actions) (held states) next p at ends shorter low r (held states') (held actions')
-        (subst₂ (λ t u. Tries (m.step at next) (held t) (held u) next r (held states') (held actions')) states_same actions_same h)
+  pub can_grow : HasRoom k q → length (taken q) < k → CanGrow p
+  can_grow room shorter =
+      let c = counted m law s k (taken p) (passed p) next now in
+      let there = subst (HasRoom k) (sym same) room in
+      record { states = omega (arith, lengths, c, there.states); actions = omega (arith, lengths, there.actions) }
 
-    pub asked_kept : length (held actions) < k → (states' : Trail S) (actions' : Trail ℕ) → KeptFrom (length (held states₁) + 1) states₁ states' → KeptFrom (length (held actions₁) + 1) actions₁ actions' → KeptFrom (k + 1) states states' × KeptFrom k actions actions'
-    asked_kept shorter states' actions' hs ha =
-        let c = counted m law s k (held actions) (held states) next p in
-        let deep : length (held states₁) + 1 ≤ k + 1 = omega (arith, ap (λ t. length (held t)) states_same) in
-        let long : length (held actions₁) + 1 ≤ k = omega (arith, ap (λ t. length (held t)) actions_same) in
-        (kept_trans (kept_same (k + 1) states_same) (kept_fewer _ (k + 1) deep hs), kept_trans (kept_same k actions_same) (kept_fewer _ k long ha))
+  pub kept_grown : length (taken q) < k → (p' : Path S) → KeptPast (length (passed p) + 1) (length (taken p) + 1) p p' → KeptPast (k + 1) k q p'
+  kept_grown shorter p' kept =
+      let c = counted m law s k (taken p) (passed p) next now in
+      kept_trans (kept_same (k + 1) k same) (kept_fewer (omega (arith, lengths, c)) (omega (arith, lengths)) kept)
+
+  module _ {at : S} (ends : at ≡ last_or (passed q) s) where
+    end : at ≡ last_or (passed p) s
+    end = ends ∙ ap (λ x. last_or (passed x) s) (sym same)
+
+    pub found : length (taken q) ≡ k → m.at_goal at ≡ true → First m s k (taken p) (passed p)
+    found whole goal = turn_finds m law s k (taken p) (passed p) next now at end (lengths ∙ whole) goal
+
+    pub whole_back : length (taken q) ≡ k → m.at_goal at ≡ false → (r : Turn) (p' : Path S) → Backs (passed p) (taken p) r (passed p') (taken p') → Turned m s k (taken q) next r (taken p') (passed p')
+    whole_back whole goal r p' b =
+        since r p' (turn_backs m law s k (taken p) (passed p) next now at end (spent_whole m law s k (taken p) (passed p) next now at end (lengths ∙ whole) goal) r (passed p') (taken p') b)
+
+    pub level_back : length (taken q) < k → m.actions < next → (r : Turn) (p' : Path S) → Backs (passed p) (taken p) r (passed p') (taken p') → Turned m s k (taken q) next r (taken p') (passed p')
+    level_back shorter past r p' b =
+        since r p' (turn_backs m law s k (taken p) (passed p) next now at end (spent_level m law s k (taken p) (passed p) next now at end (omega (arith, lengths)) past) r (passed p') (taken p') b)
+
+    pub gone_on : length (taken q) < k → next ≤ m.actions → (r : Turn) (p' : Path S) → Tries (m.step at next) (passed p) (taken p) next r (passed p') (taken p') → Turned m s k (taken q) next r (taken p') (passed p')
+    gone_on shorter low r p' t =
+        since r p' (turn_tries m law s k (taken p) (passed p) next now at end (omega (arith, lengths)) low r (passed p') (taken p') t)

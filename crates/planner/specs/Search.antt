@@ -2,8 +2,8 @@
 use Rattle.std.specs.Prelude.{◌≡◌, ℕ, zero, suc, pred, ◌+◌, ◌-◌, ◌*◌, ◌<◌, ◌≤◌, Bool, true, false, ◌⊎◌, List, [], ◌∷◌, ◌++◌, length, Ok, Err, Result}
 use Rattle.model.specs.Meaning.{Meaning}
 use Rattle.planner.specs.Leads.{Leads, Passes, First}
-use Rattle.planner.specs.declared.planning.Turn.{Turn}
-use Rattle.planner.specs.declared.planning.Turn.TheVariants.{Found, Spent, Next}
+use Rattle.planner.specs.declared.search.Turn.{Turn}
+use Rattle.planner.specs.declared.search.Turn.TheVariants.{Found, Spent, Next}
 
 -- The search holds a path of actions and the next action to try at its end. It goes through the lists in
 -- their order, so it has tried xs where xs comes before every list that goes on from the path with that action.
@@ -38,11 +38,6 @@ level_turns n (suc j) next = (n + 1 - next) * (1 + all_turns n j) + 1
 unfoldable pub turns : ℕ → ℕ → List ℕ → ℕ → ℕ
 turns n k [] next = level_turns n k next
 turns n k (p ∷ path) next = turns n (pred k) path next + ((n - p) * (1 + all_turns n (pred k)) + 1)
-
--- the last element of a list, or d where there is none
-abbrev pub last_or : {T : Type 0} → List T → T → T
-last_or [] d = d
-last_or (x ∷ xs) d = last_or xs x
 
 -- What trying an action does, by the answer of its step: the path grows by it, or the action after it comes next.
 abbrev pub Tries : {S F : Type 0} → Result S F → List S → List ℕ → ℕ → Turn → List S → List ℕ → Type 0

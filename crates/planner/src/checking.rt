@@ -1,6 +1,7 @@
 // Checking a list of actions against a model.
 ghost use Rattle.planner.specs.Checked.{Checked};
-ghost use Rattle.planner.specs.Walked.{Walked};
+ghost use Rattle.std.specs.Prelude.{◌≡◌};
+ghost use Rattle.planner.specs.Walked.{Walked, placed};
 
 use super::CheckFault;
 use model::Model;
@@ -18,32 +19,31 @@ pub fn check<M: Model>(
         return Err(CheckFault::NotAState);
     }
     let length = actions.len();
-    match walk(model, state, actions) {
-        Ok(end) => {
-            if model.at_goal(end) {
-                Ok(length)
-            } else {
-                Err(CheckFault::Short { length })
-            }
-        }
-        Err((place, cause)) => Err(CheckFault::Step { place, cause }),
+    let end = walk(model, state, actions)?;
+    if !model.at_goal(end) {
+        return Err(CheckFault::Short { length });
     }
+    Ok(length)
 }
 
-// The state that the actions reach, or the place of the first that is not allowed and its cause.
+// The state that the actions reach, or the first cause, with its place.
 fn walk<M: Model>(
     model: &M,
     state: M::State,
     actions: &[u16],
-) -> Result<M::State, (usize, M::Fault)>
+) -> Result<M::State, CheckFault<M::Fault>>
     ensures { Walked (M.Model.meaning model.now) state actions.now result }
 {
     let mut at = state;
     for (i, action) in actions.iter().enumerate() {
-        match model.step(at, *action) {
-            Ok(next) => at = next,
-            Err(cause) => return Err((i + 1, cause)),
-        }
+        at = placed(model.step(at, *action), i + 1)?;
     }
     Ok(at)
+}
+
+// Adds the place of an action to the cause of its step.
+fn placed<S: Copy, F: Copy>(step: Result<S, F>, place: usize) -> Result<S, CheckFault<F>>
+    ensures { result ≡ placed place step }
+{
+    step.map_err(|cause| CheckFault::Step { place, cause })
 }

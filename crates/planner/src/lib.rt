@@ -3,7 +3,9 @@
 
 mod checking;
 mod fault;
+mod path;
 mod planning;
+mod search;
 
 pub use checking::check;
 pub use fault::{CheckFault, PlanFault};

@@ -28,6 +28,7 @@ mod tests {
         assert_eq!(rt; TrailFault::Full.number(), 14);
         assert_eq!(rt; trail.len(), 0);
         assert_eq!(rt; trail.get(0), None);
+        assert_eq!(rt; trail.last(), None);
         assert_eq!(rt; trail.pop(), None);
     }
 
@@ -54,7 +55,9 @@ mod tests {
         assert_eq!(rt; trail.push(2), Ok(2));
         assert_eq!(rt; trail.push(3), Ok(3));
         assert_eq!(rt; trail.push(4), Err(TrailFault::Full));
+        assert_eq!(rt; trail.last(), Some(3));
         assert_eq!(rt; trail.pop(), Some(3));
+        assert_eq!(rt; trail.last(), Some(2));
         assert_eq!(rt; trail.push(9), Ok(3));
         assert_eq!(rt; trail.get(2), Some(9));
         trail.clear();

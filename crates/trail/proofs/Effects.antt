@@ -35,9 +35,6 @@ module _ {T : Type 0} where
   kept_places : (n : ℕ) (t u : Trail T) → u.places ≡ t.places → KeptFrom n t u
   kept_places n t u e = record { lender = ap (λ x. x.ghost_name) e; room_same = ap (λ p. length p.now) e; later = ap (λ p. drop n p.now) e }
 
-  pub kept_taken : (n : ℕ) (t u : Trail T) (x : T) → Taken t x u → KeptFrom n t u
-  kept_taken n t u x h = kept_places n t u h.places
-
   pub kept_cleared : (n : ℕ) (t u : Trail T) → Cleared t u → KeptFrom n t u
   kept_cleared n t u h = kept_places n t u h.places
 
@@ -45,15 +42,6 @@ module _ {T : Type 0} where
   pub pushed_added : (t u : Trail T) (x : T) (r : Result ℕ TrailFault) → Pushed t x r u → length (held t) < room t → Added t x u
   pushed_added t u x (Ok n) h fits = h.1
   pushed_added t u x (Err Full) h fits = absurd (omega (arith, h.0))
-
-  -- where there is an element, it is taken
-  pub popped_front : (t u : Trail T) (r : Option T) (front : List T) (x : T) → Popped t r u → held t ≡ front ++ (x ∷ []) → held u ≡ front
-  popped_front t u None front x h e = absurd (omega (arith, ap length h.0, ap length e, length_push front x))
-  popped_front t u (Some y) front x h e = (same_from_push (held u) front y x (sym h.holds ∙ e)).0
-
-  pub kept_popped : (n : ℕ) (t u : Trail T) (r : Option T) → Popped t r u → KeptFrom n t u
-  kept_popped n t u None h = kept_same n h.1
-  kept_popped n t u (Some x) h = kept_taken n t u x h
 
   -- what a trail holds are the first of its places, as many as it holds elements
   pub held_front : (t : Trail T) (n : ℕ) → length (held t) ≡ n → held t ≡ take n t.places.now

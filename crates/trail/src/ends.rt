@@ -8,22 +8,18 @@ impl<'a, T: Copy> Trail<'a, T> {
     pub fn push(&mut self, x: T) -> Result<usize, TrailFault>
         ensures { Pushed self.old x result self.new }
     {
-        let len = self.len;
-        match put(self.places, len, x) {
-            Some(more) => {
-                self.len = more;
-                Ok(more)
-            }
-            None => Err(TrailFault::Full),
-        }
+        let places = &mut *self.places;
+        let more = put(places, self.len, x)?;
+        self.len = more;
+        Ok(more)
     }
 
     // Takes the last element; nothing where there is none.
     pub fn pop(&mut self) -> Option<T>
         ensures { Popped self.old result self.new }
     {
-        let len = self.len;
-        let (fewer, x) = last(self.places, len)?;
+        let places = &mut *self.places;
+        let (x, fewer) = last(places, self.len)?;
         self.len = fewer;
         Some(x)
     }

@@ -2,9 +2,11 @@
 ghost use Rattle.trail.specs.Number.{number};
 
 use model::Cause;
+use thiserror::Error;
 
-#[derive(Clone, Copy, PartialEq, Eq, Debug)]
+#[derive(Clone, Copy, PartialEq, Eq, Debug, Error)]
 pub enum TrailFault {
+    #[error("the trail is full")]
     Full,
 }
 

@@ -1,8 +1,7 @@
 // A trail: a list of elements over places that the caller lends. It adds and takes at its end, and owns no memory.
 #![tactic(auto)]
 
-ghost use Rattle.std.specs.Prelude.{◌≡◌, length, take};
-ghost use Rattle.trail.specs.Item.{Item};
+ghost use Rattle.std.specs.Prelude.{◌≡◌, length, take, slice_get};
 ghost use Rattle.trail.specs.Places.{Puts, Last};
 
 mod ends;
@@ -20,55 +19,43 @@ pub struct Trail<'a, T> {
 }
 
 // What a trail does with the slice of its places.
-// Readers take the slice for writing too, and say that it comes back as it was: a trail that lends its places
-// for reading alone would know nothing of them afterwards.
-fn count<T>(places: &mut [T]) -> usize
-    ensures value { result ≡ length places.old }
-    ensures same { places.new ≡ places.old }
+
+// The elements: the places that are in use.
+fn in_use<T>(places: &[T], len: usize) -> &[T]
+    ensures { result.now ≡ take len places.now }
 {
-    places.len()
+    &places[..len.min(places.len())]
 }
 
-// How many places are in use.
-fn used<T>(places: &mut [T], len: usize) -> usize
-    ensures value { result ≡ length (take len places.old) }
-    ensures same { places.new ≡ places.old }
+fn count<T>(places: &[T], len: usize) -> usize
+    ensures { result ≡ length (take len places.now) }
 {
-    len.min(places.len())
+    in_use(places, len).len()
 }
 
 // The element at a place counted from 0.
-fn item<T: Copy>(places: &mut [T], len: usize, at: usize) -> Option<T>
-    ensures value { Item (take len places.old) at result }
-    ensures same { places.new ≡ places.old }
+fn item<T: Copy>(places: &[T], len: usize, at: usize) -> Option<T>
+    ensures { result ≡ slice_get (take len places.now) at }
 {
-    if at < len && at < places.len() {
-        Some(places[at])
-    } else {
-        None
-    }
+    in_use(places, len).get(at).copied()
 }
 
 // The last element, and how many stand before it.
-fn last<T: Copy>(places: &mut [T], len: usize) -> Option<(usize, T)>
-    ensures value { Last places.old len result }
-    ensures same { places.new ≡ places.old }
+fn last<T: Copy>(places: &[T], len: usize) -> Option<(T, usize)>
+    ensures { Last places.now len result }
 {
-    let used = len.min(places.len());
-    if used == 0 {
-        return None;
-    }
-    Some((used - 1, places[used - 1]))
+    let (x, front) = in_use(places, len).split_last()?;
+    Some((*x, front.len()))
 }
 
-// Writes an element behind the last, and answers how many there are then; nothing where no place is left.
-fn put<T: Copy>(places: &mut [T], len: usize, x: T) -> Option<usize>
+// Writes an element behind the last, and answers how many there are then.
+fn put<T: Copy>(places: &mut [T], len: usize, x: T) -> Result<usize, TrailFault>
     ensures { Puts places.old len x result places.new }
 {
-    let used = len.min(places.len());
+    let used = count(places, len);
     if used == places.len() {
-        return None;
+        return Err(TrailFault::Full);
     }
     places[used] = x;
-    Some(used + 1)
+    Ok(used + 1)
 }

@@ -1,9 +1,8 @@
 // What a trail tells of itself. Nothing that is asked changes it.
-ghost use Rattle.std.specs.Prelude.{◌≡◌, length};
+ghost use Rattle.std.specs.Prelude.{◌≡◌, ◌-◌, length, slice_get};
 ghost use Rattle.trail.specs.Held.{held, room};
-ghost use Rattle.trail.specs.Item.{Item};
 
-use super::{Trail, count, item, used};
+use super::{Trail, count, item, last};
 
 impl<'a, T: Copy> Trail<'a, T> {
     // How many elements it holds.
@@ -11,8 +10,8 @@ impl<'a, T: Copy> Trail<'a, T> {
         ensures value { result ≡ length (held self.old) }
         ensures same { self.new ≡ self.old }
     {
-        let len = self.len;
-        used(self.places, len)
+        let places = &mut *self.places;
+        count(places, self.len)
     }
 
     // How many elements it can hold in all.
@@ -20,15 +19,25 @@ impl<'a, T: Copy> Trail<'a, T> {
         ensures value { result ≡ room self.old }
         ensures same { self.new ≡ self.old }
     {
-        count(self.places)
+        let places = &mut *self.places;
+        places.len()
     }
 
     // The element at a place counted from 0, as in a slice.
     pub fn get(&mut self, at: usize) -> Option<T>
-        ensures value { Item (held self.old) at result }
+        ensures value { result ≡ slice_get (held self.old) at }
         ensures same { self.new ≡ self.old }
     {
-        let len = self.len;
-        item(self.places, len, at)
+        let places = &mut *self.places;
+        item(places, self.len, at)
+    }
+
+    // The last element, as of a slice.
+    pub fn last(&mut self) -> Option<T>
+        ensures value { result ≡ slice_get (held self.old) (length (held self.old) - 1) }
+        ensures same { self.new ≡ self.old }
+    {
+        let places = &mut *self.places;
+        last(places, self.len).map(|(x, _)| x)
     }
 }

@@ -1,9 +1,11 @@
-use Rattle.std.proofs.Common.{refl, arith}
-use Rattle.trail.proofs.Trails.{none, last_of}
+use Rattle.std.proofs.Common.{◌≡◌, [], ◌∷◌, ◌++◌, take, sym, ap, ◌∙◌, rules}
+use Rattle.trail.proofs.Trails.{take_front}
 use Rattle.trail.proofs.last.Goals as goal
 
-pub returns-then-used-eq0 : goal.returns-then-used-eq0
-returns-then-used-eq0 g c = record { value = none c.args.places.now c.args.len c.min-used.result c.min-used.ensures c.if-used-eq0.true; same = refl }
-
 pub returns : goal.returns
-returns g c = record { value = last_of c.args.places.now c.args.len c.min-used.result c.min-used.ensures _ (omega arith) c.index-places-used.is; same = refl }
+returns g c =
+    let xs = c.args.places.now in
+    let front = c.in_ok-x.front.now in
+    let x = c.in_ok-x.x.now in
+    let ends : take c.args.len xs ≡ front ++ (x ∷ []) = search rules in
+    ends ∙ ap (λ ys. ys ++ (x ∷ [])) (sym (take_front xs front c.args.len x ends))

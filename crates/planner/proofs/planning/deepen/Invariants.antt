@@ -1,10 +1,9 @@
-use Rattle.std.proofs.Common.{ℕ, ◌+◌, ◌<◌, List, length}
-use Rattle.trail.specs.Held.{KeptFrom}
-use Rattle.planner.specs.Leads.{Leads}
+use Rattle.std.proofs.Common.{◌+◌}
+use Rattle.planner.specs.Path.{KeptPast}
+use Rattle.planner.proofs.Plans.{NoneBelow}
 use Rattle.planner.proofs.planning.deepen.Given as goal
 
 abbrev pub invariant-loop-depth : goal.invariant-loop-depth
 invariant-loop-depth g l =
-    ((xs : List ℕ) → length xs < l.depth → Leads (g.M.Model.meaning l.model) l.state xs → ⊥)
-    × KeptFrom (l.most + 1) l.initial.states l.states
-    × KeptFrom l.most l.initial.actions l.actions
+    NoneBelow (g.M.Model.meaning l.model) l.state l.depth
+    × KeptPast (l.most + 1) l.most l.initial.path l.path
