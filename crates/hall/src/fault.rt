@@ -1,19 +1,27 @@
 // Why a job is not done.
 ghost use Rattle.hall.specs.Number.{number};
 
+use super::network::Press;
 use model::Cause;
-use std::fmt;
+use thiserror::Error;
 
-#[derive(Clone, Copy)]
+#[derive(Clone, Copy, PartialEq, Eq, Debug, Error)]
 pub enum HallFault {
+    #[error("there is no such job")]
     NoSuchJob,
+    #[error("the hall cannot stand like this")]
     NotAState,
+    #[error("that is done already")]
     AlreadyDone,
-    // The press with this number does not trust what its gateway serves, so nothing can be installed on it.
-    OffNetwork(u16),
+    // The press does not trust what its gateway serves, so nothing can be installed on it.
+    #[error("press {0} is off the network")]
+    OffNetwork(Press),
+    #[error("the maintenance window is closed")]
     WindowClosed,
+    #[error("the maintenance window is open")]
     WindowOpen,
     // The window opens only once gateway 1 serves the new chain.
+    #[error("gateway 1 has to serve the new chain first")]
     TooEarly,
 }
 
@@ -21,7 +29,7 @@ impl Cause for HallFault {
     ghost told = { number };
 
     fn number(&self) -> u16 {
-        match *self {
+        match self {
             HallFault::NoSuchJob => 21,
             HallFault::NotAState => 22,
             HallFault::AlreadyDone => 101,
@@ -29,20 +37,6 @@ impl Cause for HallFault {
             HallFault::WindowClosed => 103,
             HallFault::WindowOpen => 104,
             HallFault::TooEarly => 105,
-        }
-    }
-}
-
-impl fmt::Display for HallFault {
-    fn fmt<W: fmt::Write>(&self, f: &mut fmt::Formatter<W>) -> fmt::Result {
-        match *self {
-            HallFault::NoSuchJob => f.write_str("there is no such job"),
-            HallFault::NotAState => f.write_str("the hall cannot stand like this"),
-            HallFault::AlreadyDone => f.write_str("that is done already"),
-            HallFault::OffNetwork(press) => write!(f, "press {press} is off the network"),
-            HallFault::WindowClosed => f.write_str("the maintenance window is closed"),
-            HallFault::WindowOpen => f.write_str("the maintenance window is open"),
-            HallFault::TooEarly => f.write_str("gateway 1 has to serve the new chain first"),
         }
     }
 }

@@ -1,55 +1,52 @@
 // What a crew can do in the hall: the actions of the model, by their numbers.
 ghost use Rattle.std.specs.Prelude.{◌≡◌};
+ghost use Rattle.std.specs.Option.{ok_or};
 ghost use Rattle.hall.specs.Jobs.{job};
+ghost use Rattle.hall.specs.declared.fault.HallFault.TheVariants.{NoSuchJob};
 
+use super::fault::HallFault;
+use super::network::{Gateway, Press};
 use std::fmt;
 
-#[derive(Clone, Copy)]
+#[derive(Clone, Copy, PartialEq, Eq, Debug)]
 pub enum Job {
-    Install1,
-    Install2,
-    Install3,
-    Switch1,
-    Switch2,
+    Install(Press),
+    Switch(Gateway),
     OpenWindow,
     CloseWindow,
-    PutBack1,
-    PutBack2,
+    PutBack(Gateway),
 }
 
-impl Job {
-    // The job with an action's number, if there is one.
-    pub fn of(action: u16) -> Option<Job>
-        ensures { result ≡ job action }
-    {
+// The job with an action's number, if there is one.
+impl TryFrom<u16> for Job {
+    type Error = HallFault;
+
+    ghost try_from_gives = { λ action r. r ≡ ok_or (job action) NoSuchJob };
+
+    fn try_from(action: u16) -> Result<Self, HallFault> {
         match action {
-            1 => Some(Job::Install1),
-            2 => Some(Job::Install2),
-            3 => Some(Job::Install3),
-            4 => Some(Job::Switch1),
-            5 => Some(Job::Switch2),
-            6 => Some(Job::OpenWindow),
-            7 => Some(Job::CloseWindow),
-            8 => Some(Job::PutBack1),
-            9 => Some(Job::PutBack2),
-            _ => None,
+            1 => Ok(Job::Install(Press::One)),
+            2 => Ok(Job::Install(Press::Two)),
+            3 => Ok(Job::Install(Press::Three)),
+            4 => Ok(Job::Switch(Gateway::One)),
+            5 => Ok(Job::Switch(Gateway::Two)),
+            6 => Ok(Job::OpenWindow),
+            7 => Ok(Job::CloseWindow),
+            8 => Ok(Job::PutBack(Gateway::One)),
+            9 => Ok(Job::PutBack(Gateway::Two)),
+            _ => Err(HallFault::NoSuchJob),
         }
     }
 }
 
 impl fmt::Display for Job {
     fn fmt<W: fmt::Write>(&self, f: &mut fmt::Formatter<W>) -> fmt::Result {
-        let text = match *self {
-            Job::Install1 => "install the new root on press 1",
-            Job::Install2 => "install the new root on press 2",
-            Job::Install3 => "install the new root on press 3",
-            Job::Switch1 => "switch gateway 1 to the new chain",
-            Job::Switch2 => "switch gateway 2 to the new chain",
-            Job::OpenWindow => "open the maintenance window",
-            Job::CloseWindow => "close the maintenance window",
-            Job::PutBack1 => "put gateway 1 back to the old chain",
-            Job::PutBack2 => "put gateway 2 back to the old chain",
-        };
-        f.write_str(text)
+        match self {
+            Job::Install(press) => write!(f, "install the new root on press {press}"),
+            Job::Switch(gateway) => write!(f, "switch gateway {gateway} to the new chain"),
+            Job::OpenWindow => f.write_str("open the maintenance window"),
+            Job::CloseWindow => f.write_str("close the maintenance window"),
+            Job::PutBack(gateway) => write!(f, "put gateway {gateway} back to the old chain"),
+        }
     }
 }

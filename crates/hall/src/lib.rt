@@ -3,11 +3,14 @@
 #![tactic(auto)]
 
 mod as_model;
+mod doing;
 mod fault;
 mod job;
+mod network;
 mod plant;
 
 pub use as_model::Hall;
 pub use fault::HallFault;
 pub use job::Job;
+pub use network::{Gateway, Press};
 pub use plant::{Chain, Plant, Store, Window};

@@ -1,30 +1,32 @@
 // Where the plant stands.
-ghost use Rattle.std.specs.Prelude.{◌≡◌};
-ghost use Rattle.hall.specs.Plant.{is_state, at_goal, trusts, serves_new, is_open};
+ghost use Rattle.std.specs.Prelude.{◌≡◌, false, slice_index_or};
+ghost use Rattle.hall.specs.Plant.{is_state, at_goal, trusts, serves_new, is_open, store, chain, on_network, with_store, with_chain, facts};
+
+use super::network::{Gateway, Press};
+use std::fmt;
 
 // Which roots a press trusts.
-#[derive(Clone, Copy)]
+#[derive(Clone, Copy, PartialEq, Eq, Debug)]
 pub enum Store {
     OldRoot,
     BothRoots,
 }
 
 // Which chain a gateway serves.
-#[derive(Clone, Copy)]
+#[derive(Clone, Copy, PartialEq, Eq, Debug)]
 pub enum Chain {
     Old,
     New,
 }
 
 // The maintenance window, in which gateway 2 may be switched.
-#[derive(Clone, Copy)]
+#[derive(Clone, Copy, PartialEq, Eq, Debug)]
 pub enum Window {
     Closed,
     Open,
 }
 
-// Presses 1 and 2 hang on gateway 1, press 3 on gateway 2.
-#[derive(Clone, Copy)]
+#[derive(Clone, Copy, PartialEq, Eq, Debug)]
 pub struct Plant {
     pub press1: Store,
     pub press2: Store,
@@ -38,7 +40,7 @@ impl Chain {
     pub fn is_new(self) -> bool
         ensures { result ≡ serves_new self }
     {
-        matches!(self, Chain::New)
+        self == Chain::New
     }
 }
 
@@ -46,7 +48,7 @@ impl Window {
     pub fn is_open(self) -> bool
         ensures { result ≡ is_open self }
     {
-        matches!(self, Window::Open)
+        self == Window::Open
     }
 }
 
@@ -55,14 +57,56 @@ impl Store {
     pub fn trusts(self, chain: Chain) -> bool
         ensures { result ≡ trusts self chain }
     {
-        match (self, chain) {
-            (Store::OldRoot, Chain::New) => false,
-            _ => true,
-        }
+        !matches!((self, chain), (Store::OldRoot, Chain::New))
     }
 }
 
 impl Plant {
+    pub fn store(self, press: Press) -> Store
+        ensures { result ≡ store self press }
+    {
+        match press {
+            Press::One => self.press1,
+            Press::Two => self.press2,
+            Press::Three => self.press3,
+        }
+    }
+
+    pub fn chain(self, gateway: Gateway) -> Chain
+        ensures { result ≡ chain self gateway }
+    {
+        match gateway {
+            Gateway::One => self.gateway1,
+            Gateway::Two => self.gateway2,
+        }
+    }
+
+    // Whether a press trusts what its gateway serves.
+    pub fn on_network(self, press: Press) -> bool
+        ensures { result ≡ on_network self press }
+    {
+        self.store(press).trusts(self.chain(press.gateway()))
+    }
+
+    pub fn with_store(self, press: Press, store: Store) -> Plant
+        ensures { result ≡ with_store self press store }
+    {
+        match press {
+            Press::One => Plant { press1: store, ..self },
+            Press::Two => Plant { press2: store, ..self },
+            Press::Three => Plant { press3: store, ..self },
+        }
+    }
+
+    pub fn with_chain(self, gateway: Gateway, chain: Chain) -> Plant
+        ensures { result ≡ with_chain self gateway chain }
+    {
+        match gateway {
+            Gateway::One => Plant { gateway1: chain, ..self },
+            Gateway::Two => Plant { gateway2: chain, ..self },
+        }
+    }
+
     // The window is open only once gateway 1 serves the new chain.
     pub fn is_state(self) -> bool
         ensures { result ≡ is_state self }
@@ -77,8 +121,37 @@ impl Plant {
         self.gateway1.is_new()
             && self.gateway2.is_new()
             && !self.window.is_open()
-            && self.press1.trusts(self.gateway1)
-            && self.press2.trusts(self.gateway1)
-            && self.press3.trusts(self.gateway2)
+            && self.on_network(Press::One)
+            && self.on_network(Press::Two)
+            && self.on_network(Press::Three)
+    }
+
+    // What is shown at a place, also of a value that is not a state.
+    pub fn fact(self, place: u16) -> bool
+        ensures { result ≡ slice_index_or (facts self) place false }
+    {
+        match place {
+            1 => self.press1.trusts(Chain::New),
+            2 => self.press2.trusts(Chain::New),
+            3 => self.press3.trusts(Chain::New),
+            4 => self.gateway1.is_new(),
+            5 => self.gateway2.is_new(),
+            6 => self.window.is_open(),
+            7 => self.on_network(Press::One),
+            8 => self.on_network(Press::Two),
+            9 => self.on_network(Press::Three),
+            _ => false,
+        }
+    }
+}
+
+// The six parts, 1 for new or open, as they are shown at places 1 to 6: also of a value that is not a state.
+impl fmt::Display for Plant {
+    fn fmt<W: fmt::Write>(&self, f: &mut fmt::Formatter<W>) -> fmt::Result {
+        write!(f, "{}", u16::from(self.fact(1)))?;
+        for place in 2..=6 {
+            write!(f, " {}", u16::from(self.fact(place)))?;
+        }
+        Ok(())
     }
 }
