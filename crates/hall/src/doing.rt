@@ -82,8 +82,14 @@ fn done(plant: Plant, job: Job) -> Plant
     match job {
         Job::Install(press) => plant.with_store(press, Store::BothRoots),
         Job::Switch(gateway) => plant.with_chain(gateway, Chain::New),
-        Job::OpenWindow => Plant { window: Window::Open, ..plant },
-        Job::CloseWindow => Plant { window: Window::Closed, ..plant },
+        Job::OpenWindow => Plant {
+            window: Window::Open,
+            ..plant
+        },
+        Job::CloseWindow => Plant {
+            window: Window::Closed,
+            ..plant
+        },
         Job::PutBack(gateway) => plant.with_chain(gateway, Chain::Old),
     }
 }

@@ -88,22 +88,37 @@ impl Plant {
         self.store(press).trusts(self.chain(press.gateway()))
     }
 
-    pub fn with_store(self, press: Press, store: Store) -> Plant
+    pub(crate) fn with_store(self, press: Press, store: Store) -> Plant
         ensures { result ≡ with_store self press store }
     {
         match press {
-            Press::One => Plant { press1: store, ..self },
-            Press::Two => Plant { press2: store, ..self },
-            Press::Three => Plant { press3: store, ..self },
+            Press::One => Plant {
+                press1: store,
+                ..self
+            },
+            Press::Two => Plant {
+                press2: store,
+                ..self
+            },
+            Press::Three => Plant {
+                press3: store,
+                ..self
+            },
         }
     }
 
-    pub fn with_chain(self, gateway: Gateway, chain: Chain) -> Plant
+    pub(crate) fn with_chain(self, gateway: Gateway, chain: Chain) -> Plant
         ensures { result ≡ with_chain self gateway chain }
     {
         match gateway {
-            Gateway::One => Plant { gateway1: chain, ..self },
-            Gateway::Two => Plant { gateway2: chain, ..self },
+            Gateway::One => Plant {
+                gateway1: chain,
+                ..self
+            },
+            Gateway::Two => Plant {
+                gateway2: chain,
+                ..self
+            },
         }
     }
 
@@ -127,7 +142,7 @@ impl Plant {
     }
 
     // What is shown at a place, also of a value that is not a state.
-    pub fn fact(self, place: u16) -> bool
+    pub(crate) fn fact(self, place: u16) -> bool
         ensures { result ≡ slice_index_or (facts self) place false }
     {
         match place {
