@@ -88,38 +88,25 @@ impl Plant {
         self.store(press).trusts(self.chain(press.gateway()))
     }
 
-    pub(crate) fn with_store(self, press: Press, store: Store) -> Plant
+    pub(crate) fn with_store(mut self, press: Press, store: Store) -> Plant
         ensures { result ≡ with_store self press store }
     {
         match press {
-            Press::One => Plant {
-                press1: store,
-                ..self
-            },
-            Press::Two => Plant {
-                press2: store,
-                ..self
-            },
-            Press::Three => Plant {
-                press3: store,
-                ..self
-            },
+            Press::One => self.press1 = store,
+            Press::Two => self.press2 = store,
+            Press::Three => self.press3 = store,
         }
+        self
     }
 
-    pub(crate) fn with_chain(self, gateway: Gateway, chain: Chain) -> Plant
+    pub(crate) fn with_chain(mut self, gateway: Gateway, chain: Chain) -> Plant
         ensures { result ≡ with_chain self gateway chain }
     {
         match gateway {
-            Gateway::One => Plant {
-                gateway1: chain,
-                ..self
-            },
-            Gateway::Two => Plant {
-                gateway2: chain,
-                ..self
-            },
+            Gateway::One => self.gateway1 = chain,
+            Gateway::Two => self.gateway2 = chain,
         }
+        self
     }
 
     // The window is open only once gateway 1 serves the new chain.
@@ -160,7 +147,7 @@ impl Plant {
     }
 }
 
-// The six parts, 1 for new or open, as they are shown at places 1 to 6: also of a value that is not a state.
+// What is shown at places 1 to 6, which is all that the plant is: also of a value that is not a state.
 impl fmt::Display for Plant {
     fn fmt<W: fmt::Write>(&self, f: &mut fmt::Formatter<W>) -> fmt::Result {
         write!(f, "{}", u16::from(self.fact(1)))?;

@@ -118,19 +118,7 @@ fn make_call(
 
 // What was found, as the first six numbers that are shown: also of a value that is not a state, which shows only zeros.
 fn print_plant(rt: &HostRuntime, plant: Plant) -> io::Result<()> {
-    let found = [
-        plant.press1.trusts(Chain::New),
-        plant.press2.trusts(Chain::New),
-        plant.press3.trusts(Chain::New),
-        plant.gateway1.is_new(),
-        plant.gateway2.is_new(),
-        plant.window.is_open(),
-    ];
-    for holds in found {
-        let number = u16::from(holds);
-        print!(rt; " {number}")?;
-    }
-    Ok(())
+    print!(rt; " {plant}")
 }
 
 fn print_call(rt: &HostRuntime, call: Call<Plant>) -> io::Result<()> {
@@ -154,7 +142,7 @@ fn print_call(rt: &HostRuntime, call: Call<Plant>) -> io::Result<()> {
 
 fn print_answer(rt: &HostRuntime, answer: Answer) -> io::Result<()> {
     if let Answer::Order(Order { action, .. }) = answer
-        && let Some(job) = Job::of(action)
+        && let Ok(job) = Job::try_from(action)
     {
         return println!(rt; ": {answer} ({job})");
     }

@@ -21,7 +21,7 @@ const ACTIONS: usize = 24;
 
 fn print_jobs(rt: &HostRuntime, hall: &Hall) -> io::Result<()> {
     for action in 1..=hall.actions() {
-        if let Some(job) = Job::of(action) {
+        if let Ok(job) = Job::try_from(action) {
             println!(rt; "job {action}: {job}")?;
         }
     }
@@ -39,9 +39,9 @@ fn print_numbers(rt: &HostRuntime, hall: &Hall, s: Plant) -> io::Result<()> {
 // One line: the shown numbers, and the job that led there.
 fn print_step(rt: &HostRuntime, hall: &Hall, s: Plant, step: usize, action: u16) -> io::Result<()> {
     print_numbers(rt, hall, s)?;
-    match Job::of(action) {
-        Some(job) => println!(rt; "  after step {step}, action {action}: {job}"),
-        None => println!(rt; "  after step {step}, action {action}"),
+    match Job::try_from(action) {
+        Ok(job) => println!(rt; "  after step {step}, action {action}: {job}"),
+        Err(_) => println!(rt; "  after step {step}, action {action}"),
     }
 }
 
