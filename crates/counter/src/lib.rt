@@ -7,21 +7,25 @@ ghost use Rattle.counter.specs.Number.{number};
 ghost use Rattle.std.proofs.Common.{rules};
 
 use model::{Cause, Model as PlantModel, ShownModel};
+use thiserror::Error;
 
 // The highest state.
 const TOP: u16 = 999;
 
-#[derive(Clone, Copy)]
+#[derive(Clone, Copy, PartialEq, Eq, Debug)]
 pub struct Counter {
     actions: u16,
     goal: u16,
     ghost few: { actions ≤ 200 },
 }
 
-#[derive(Clone, Copy, PartialEq, Eq, Debug)]
+#[derive(Clone, Copy, PartialEq, Eq, Debug, Error)]
 pub enum CounterFault {
+    #[error("there is no such action")]
     NoAction,
+    #[error("a state is at most {TOP}")]
     NotAState,
+    #[error("the sum is above {TOP}")]
     Beyond,
 }
 
@@ -64,16 +68,17 @@ impl PlantModel for Counter {
     }
 
     fn step(&self, s: u16, action: u16) -> Result<u16, CounterFault> {
-        if action == 0 || action > self.actions {
+        if !(1..=self.actions).contains(&action) {
             return Err(CounterFault::NoAction);
         }
-        if s > TOP {
+        if !self.is_state(s) {
             return Err(CounterFault::NotAState);
         }
-        if s + action > TOP {
+        let next = s + action;
+        if !self.is_state(next) {
             return Err(CounterFault::Beyond);
         }
-        Ok(s + action)
+        Ok(next)
     }
 }
 
@@ -95,7 +100,7 @@ impl Cause for CounterFault {
     ghost told = { number };
 
     fn number(&self) -> u16 {
-        match *self {
+        match self {
             CounterFault::NoAction => 21,
             CounterFault::NotAState => 22,
             CounterFault::Beyond => 101,
