@@ -1,5 +1,6 @@
 -- Which job each action is, when it can be done, and how the plant stands afterwards.
 use Rattle.std.specs.Prelude.{ℕ, List, [], ◌∷◌, Some, None, Ok, Err, Option, Result, slice_index_or}
+use Rattle.std.specs.Result.{result_and}
 use Rattle.hall.specs.Network.{gateway}
 use Rattle.hall.specs.Plant.{store, chain, with_store, with_chain}
 use Rattle.hall.specs.declared.fault.HallFault.{HallFault}
@@ -80,9 +81,5 @@ done p OpenWindow = record p { window = Open }
 done p CloseWindow = record p { window = Closed }
 done p (PutBack gateway) = with_chain p gateway Old
 
-abbrev pub when : Result (Unit {0}) HallFault → Plant → Result Plant HallFault
-when (Ok x) p = Ok p
-when (Err f) p = Err f
-
 abbrev pub after : Plant → Job → Result Plant HallFault
-after p j = when (can_do p j) (done p j)
+after p j = result_and (can_do p j) (Ok (done p j))
