@@ -13,7 +13,7 @@ differ false true = 1
 differ true false = 1
 differ true true = 0
 
--- in how many parts two plants differ: each part has two values, one of them new or open
+-- in how many parts two plants differ: each part has two values, which one test tells apart
 abbrev pub differences : Plant → Plant → ℕ
 differences p q =
     differ (trusts p.press1 New) (trusts q.press1 New)

@@ -26,6 +26,7 @@ pub enum Window {
     Open,
 }
 
+// Named fields, not arrays: a clause sees an array as a list, and specs/ would go by index in place of cases.
 #[derive(Clone, Copy, PartialEq, Eq, Debug)]
 pub struct Plant {
     pub press1: Store,
