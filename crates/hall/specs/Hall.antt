@@ -1,5 +1,5 @@
 -- What the hall means as a model.
-use Rattle.std.specs.Prelude.{false, if◌then◌else◌, Some, None, Err, Option, Result, slice_index_or}
+use Rattle.std.specs.Prelude.{false, ◌&&◌, if◌then◌else◌, Some, None, Err, Option, Result, slice_index_or}
 use Rattle.model.specs.Meaning.{Meaning}
 use Rattle.model.specs.Shown.{Shown}
 use Rattle.hall.specs.Jobs.{job, after}
@@ -23,7 +23,4 @@ abbrev pub hall_meaning : Meaning Plant HallFault
 hall_meaning = record { actions = 9; start = untouched; is_state = is_state; at_goal = at_goal; step = λ p action. step p (job action) }
 
 abbrev pub hall_shown : Shown Plant
-hall_shown = record {
-  places = 9;
-  number = λ p place. if is_state p then (if slice_index_or (facts p) place false then 1 else 0) else 0;
-}
+hall_shown = record { places = 9; number = λ p place. if is_state p && slice_index_or (facts p) place false then 1 else 0 }
