@@ -6,6 +6,7 @@ mod tests {
     use counter::{Counter, CounterFault};
     use model::Cause;
     use planner::{CheckFault, PlanAnswer, PlanFault, check, plan};
+    use std::alloc::AllocError;
     use trail::{Trail, TrailFault};
 
     // What planning from `from` answers with all the places that a plan can need.
@@ -175,5 +176,48 @@ mod tests {
         let fault: CheckFault<CounterFault> = CheckFault::Step { place: 3, cause };
         assert_eq!(rt; fault.number(), 21);
         assert_eq!(rt; fault.added(), 3);
+    }
+
+    #[test]
+    fn texts_of_refusals(rt: HostRuntime) -> Result<(), AllocError> {
+        let alloc = rt.alloc();
+        assert_eq!(rt;
+            format!(in alloc; "{}", TrailFault::Full)?.as_str(),
+            "the trail is full"
+        );
+        let plans = [
+            (PlanFault::NotAState, "the value is not a state"),
+            (PlanFault::FewStates, "too few places for states"),
+            (PlanFault::FewActions, "too few places for actions"),
+        ];
+        for (fault, text) in plans {
+            assert_eq!(rt; format!(in alloc; "{fault}")?.as_str(), text);
+        }
+        let causes = [
+            (
+                CounterFault::NoAction,
+                "at place 3: there is no such action",
+            ),
+            (
+                CounterFault::NotAState,
+                "at place 3: a state is at most 999",
+            ),
+            (CounterFault::Beyond, "at place 3: the sum is above 999"),
+        ];
+        for (cause, text) in causes {
+            let fault = CheckFault::Step { place: 3, cause };
+            assert_eq!(rt; format!(in alloc; "{fault}")?.as_str(), text);
+        }
+        let none: CheckFault<CounterFault> = CheckFault::NotAState;
+        assert_eq!(rt;
+            format!(in alloc; "{none}")?.as_str(),
+            "at place 0: not a state"
+        );
+        let short: CheckFault<CounterFault> = CheckFault::Short { length: 2 };
+        assert_eq!(rt;
+            format!(in alloc; "{short}")?.as_str(),
+            "after 2 actions: short of the goal"
+        );
+        Ok(())
     }
 }
