@@ -31,11 +31,11 @@ pub enum Answer {
     Refused(CampaignFault),
 }
 
-impl Answer {
-    // What asking answers, as the type that serves every call.
-    pub fn of_ask(r: Result<Advice, CampaignFault>) -> Answer
-        ensures { result ≡ of_ask r }
-    {
+// What asking answers, as the type that serves every call.
+impl From<Result<Advice, CampaignFault>> for Answer {
+    ghost from_gives = { λ r a. a ≡ of_ask r };
+
+    fn from(r: Result<Advice, CampaignFault>) -> Answer {
         match r {
             Ok(Advice::Order(order)) => Answer::Order(order),
             Ok(Advice::Reached) => Answer::Reached,
@@ -43,11 +43,13 @@ impl Answer {
             Err(fault) => Answer::Refused(fault),
         }
     }
+}
 
-    // What done, failed and finding answer, as the type that serves every call.
-    pub fn of_report(r: Result<u16, CampaignFault>) -> Answer
-        ensures { result ≡ of_report r }
-    {
+// What done, failed and finding answer, as the type that serves every call.
+impl From<Result<u16, CampaignFault>> for Answer {
+    ghost from_gives = { λ r a. a ≡ of_report r };
+
+    fn from(r: Result<u16, CampaignFault>) -> Answer {
         match r {
             Ok(reports) => Answer::Accepted(reports),
             Err(fault) => Answer::Refused(fault),
@@ -66,10 +68,7 @@ impl fmt::Display for Answer {
             Answer::NoWay => f.write_str("no way"),
             Answer::Accepted(reports) => write!(f, "accepted, reports: {reports}"),
             Answer::Number(number) => write!(f, "{number}"),
-            Answer::Refused(fault) => {
-                let number = fault.number();
-                write!(f, "refused, {number}: {fault}")
-            }
+            Answer::Refused(fault) => write!(f, "refused, {}: {fault}", fault.number()),
         }
     }
 }

@@ -4,19 +4,22 @@ ghost use Rattle.campaign.specs.Number.{number, of_plan};
 
 use model::Cause;
 use planner::PlanFault;
-use std::fmt;
+use thiserror::Error;
 
-#[derive(Clone, Copy, PartialEq, Eq, Debug)]
+#[derive(Clone, Copy, PartialEq, Eq, Debug, Error)]
 pub enum CampaignFault {
-    // The value is not a state.
+    #[error("the value is not a state")]
     NotAState,
-    // An order is out: it has to be reported on first.
+    // It has to be reported on first.
+    #[error("an order is out")]
     OrderOut,
-    // No order is out that could be reported on.
+    #[error("no order is out")]
     NoOrder,
     // The trail of states has fewer than r + 1 places, r being the steps left.
+    #[error("too few places for states")]
     FewStates,
     // The trail of actions has fewer than r places.
+    #[error("too few places for actions")]
     FewActions,
 }
 
@@ -44,17 +47,5 @@ impl From<PlanFault> for CampaignFault {
             PlanFault::FewStates => CampaignFault::FewStates,
             PlanFault::FewActions => CampaignFault::FewActions,
         }
-    }
-}
-
-impl fmt::Display for CampaignFault {
-    fn fmt<W: fmt::Write>(&self, f: &mut fmt::Formatter<W>) -> fmt::Result {
-        f.write_str(match *self {
-            CampaignFault::NotAState => "the value is not a state",
-            CampaignFault::OrderOut => "an order is out",
-            CampaignFault::NoOrder => "no order is out",
-            CampaignFault::FewStates => "too few places for states",
-            CampaignFault::FewActions => "too few places for actions",
-        })
     }
 }

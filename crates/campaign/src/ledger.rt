@@ -1,7 +1,7 @@
 // The ledger of a campaign.
 use super::order::Order;
 
-#[derive(Clone, Copy)]
+#[derive(Clone, Copy, PartialEq, Eq, Debug)]
 pub struct Ledger<S> {
     // Where the plant stands.
     pub stands: S,

@@ -107,11 +107,11 @@ fn make_call(
             let actions_used = most_actions.min(actions.len());
             let mut states = Trail::new(&mut states[0..states_used]);
             let mut actions = Trail::new(&mut actions[0..actions_used]);
-            Answer::of_ask(campaign.ask(&mut states, &mut actions))
+            Answer::from(campaign.ask(&mut states, &mut actions))
         }
-        Call::Done => Answer::of_report(campaign.done()),
-        Call::Failed => Answer::of_report(campaign.failed()),
-        Call::Find(plant) => Answer::of_report(campaign.find(plant)),
+        Call::Done => Answer::from(campaign.done()),
+        Call::Failed => Answer::from(campaign.failed()),
+        Call::Find(plant) => Answer::from(campaign.find(plant)),
         Call::Show(place) => Answer::Number(campaign.show(place)),
     }
 }

@@ -65,10 +65,10 @@ pub fn carry_out<M: ShownModel>(
         Call::Ask {
             states: states_allowed,
             actions: actions_allowed,
-        } => Answer::of_ask(ask_within(campaign, states, actions, states_allowed, actions_allowed)),
-        Call::Done => Answer::of_report(campaign.done()),
-        Call::Failed => Answer::of_report(campaign.failed()),
-        Call::Find(value) => Answer::of_report(campaign.find(value)),
+        } => Answer::from(ask_within(campaign, states, actions, states_allowed, actions_allowed)),
+        Call::Done => Answer::from(campaign.done()),
+        Call::Failed => Answer::from(campaign.failed()),
+        Call::Find(value) => Answer::from(campaign.find(value)),
         Call::Show(place) => Answer::Number(campaign.show(place)),
     }
 }
