@@ -1,16 +1,11 @@
 // Following the hall's rollover: a crew's calls, made one by one on a campaign, and then replayed.
-ghost use Rattle.std.specs.Prelude.{length};
-ghost use Rattle.campaign.specs.Leaves.{Leaves};
-ghost use Rattle.campaign.specs.Says.{Says};
-ghost use Rattle.hall.specs.Hall.{hall_meaning, hall_shown};
 ghost use Rattle.own_plant.specs.Agreeing.{Same, Agrees};
-ghost use Rattle.replay.specs.Logged.{limited};
 
 use super::{ACTIONS, STATES};
 use campaign::{Answer, Call, Campaign, Event, Order};
 use hall::{Chain, Hall, Job, Plant, Store, Window};
 use model::{Cause, Model, ShownModel};
-use replay::replay;
+use replay::{carry_out, replay};
 use std::io;
 use trail::Trail;
 
@@ -86,34 +81,6 @@ fn crew_calls(hall: &Hall) -> [Call<Plant>; CALLS] {
         Call::Failed,
         ask,
     ]
-}
-
-// Makes a call by the campaign's own function.
-fn make_call(
-    campaign: &mut Campaign<Hall>,
-    call: Call<Plant>,
-    states: &mut [Plant],
-    actions: &mut [u16],
-) -> Answer
-    ensures says { Says hall_meaning hall_shown campaign.old.bound campaign.old.ledger (limited (length states.old) (length actions.old) call) result }
-    ensures leaves { Leaves hall_meaning campaign.old (limited (length states.old) (length actions.old) call) result campaign.new }
-{
-    match call {
-        Call::Ask {
-            states: most_states,
-            actions: most_actions,
-        } => {
-            let states_used = most_states.min(states.len());
-            let actions_used = most_actions.min(actions.len());
-            let mut states = Trail::new(&mut states[0..states_used]);
-            let mut actions = Trail::new(&mut actions[0..actions_used]);
-            Answer::from(campaign.ask(&mut states, &mut actions))
-        }
-        Call::Done => Answer::from(campaign.done()),
-        Call::Failed => Answer::from(campaign.failed()),
-        Call::Find(plant) => Answer::from(campaign.find(plant)),
-        Call::Show(place) => Answer::Number(campaign.show(place)),
-    }
 }
 
 // What was found, as the first six numbers that are shown: also of a value that is not a state, which shows only zeros.
@@ -212,7 +179,7 @@ fn print_calls(
     for call in calls {
         let mut states = [hall.start(); STATES];
         let mut actions = [0; ACTIONS];
-        let answer = make_call(&mut campaign, *call, &mut states, &mut actions);
+        let answer = carry_out(&mut campaign, *call, &mut states, &mut actions);
         print_call(rt, *call)?;
         print_answer(rt, answer)?;
         let _ = log.push(Event {

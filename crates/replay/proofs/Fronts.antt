@@ -1,8 +1,8 @@
 -- A list whose front is written. Assumes nothing.
-use Rattle.std.proofs.Common.{◌≡◌, ℕ, ◌+◌, ◌-◌, ◌≤◌, List, ◌++◌, length, take, drop, sym, ap, ◌∙◌, arith, length-take}
+use Rattle.std.proofs.Common.{◌≡◌, ℕ, ◌≤◌, List, ◌++◌, length, take, drop, sym, ap, ◌∙◌, arith, length-take}
 use native.Mathlib.Decide.{dec_le}
-use lib.Seq.{drop-append-add}
-use Rattle.std.proofs.lemmas.List.{drop-append-le, drop-drop, take-append-drop}
+use Rattle.std.proofs.lemmas.List.{drop-append-le, take-append-drop}
+use Rattle.std.proofs.lemmas.Slice.{drop-append-drop}
 
 -- where the first n elements are written, and those from place k on are as before, so are those of the whole list
 pub front_kept : {A : Type 0} (k n : ℕ) (xs ys : List A) → n ≤ length xs → length ys ≡ n → drop k ys ≡ drop k (take n xs) → drop k (ys ++ drop n xs) ≡ drop k xs
@@ -13,11 +13,5 @@ front_kept k n xs ys h e same =
           ∙ ap (λ zs. zs ++ drop n xs) same
           ∙ sym (drop-append-le k (take n xs) (drop n xs) (simp length-take (omega arith)))
           ∙ ap (drop k) (take-append-drop n xs)
-      | no gt ↦
-          let past : k ≡ length ys + (k - n) = omega arith in
-          let whole : (k - n) + n ≡ k = omega arith in
-          ap (λ i. drop i (ys ++ drop n xs)) past
-          ∙ drop-append-add ys (drop n xs) (k - n)
-          ∙ drop-drop (k - n) n xs
-          ∙ ap (λ i. drop i xs) (omega arith)
+      | no gt ↦ drop-append-drop n xs ys k (omega arith) e
     ]

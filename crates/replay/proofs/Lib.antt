@@ -1,3 +1,3 @@
 mod Fronts
 mod Logs
-mod Unused
+mod Lending

@@ -1,6 +1,6 @@
 -- A log that grows call by call. Assumes nothing.
-use Rattle.std.proofs.Common.{◌≡◌, ℕ, ◌+◌, ◌<◌, ◌≤◌, List, [], ◌∷◌, ◌++◌, map, length, get_or, take, drop, sym, refl, ap, ◌∙◌, subst}
-use Rattle.std.proofs.lemmas.List.{length_push, map-append, take_all, take_more}
+use Rattle.std.proofs.Common.{◌≡◌, ℕ, ◌+◌, ◌-◌, ◌<◌, ◌≤◌, List, [], ◌∷◌, ◌++◌, map, length, get_or, take, drop, sym, refl, ap, ◌∙◌, subst, arith}
+use Rattle.std.proofs.lemmas.List.{drop-drop, length_push, map-append, take_all, take_more}
 use Rattle.model.specs.Meaning.{Meaning, Lawful}
 use Rattle.model.specs.Shown.{Shown}
 use Rattle.campaign.proofs.Runs.{promised, reckoned-append, follows_push}
@@ -12,7 +12,7 @@ use Rattle.campaign.specs.declared.call.Call.{Call}
 use Rattle.campaign.specs.declared.call.Event.{Event}
 use Rattle.campaign.specs.declared.ledger.Ledger.{Ledger}
 use Rattle.replay.specs.Logged.{limited, Logged}
-use Rattle.replay.specs.Places.{Unplanned, NonePlanned, PlacesKept}
+use Rattle.replay.specs.Places.{Unplanned, NonePlanned, PlacesHold, PlacesKept}
 
 -- The first i of the calls cs were carried out, over n lent places for states and k for actions, and l is the ledger then.
 pub record Going {S F : Type 0} (m : Meaning S F) (v : Shown S) (b n k : ℕ) (cs : List (Call S)) (i : ℕ) (log : List (Event S)) (l : Ledger S) : Type 0 where
@@ -60,17 +60,24 @@ none_planned_last : {S : Type 0} (log : List (Event S)) (e : Event S) → NonePl
 none_planned_last [] e h = h.0
 none_planned_last (x ∷ log) e h = none_planned_last log e h.1
 
+-- where the elements from place j on are as before, so are those from a later place on
+later : {A : Type 0} (j n : ℕ) (xs xs' : List A) → j ≤ n → drop j xs' ≡ drop j xs → drop n xs' ≡ drop n xs
+later {A = A} j n xs xs' h same =
+    let at : (ys : List A) → drop n ys ≡ drop (n - j) (drop j ys) = λ ys. ap (λ i. drop i ys) (omega arith) ∙ sym (drop-drop (n - j) j ys) in
+    at xs' ∙ ap (drop (n - j)) same ∙ sym (at xs)
+
 module _ {S : Type 0} (b : ℕ) where
   pub places_none : (log : List (Event S)) (ss : List S) (xs : List ℕ) → PlacesKept b log ss ss xs xs
   places_none log ss xs = record { states = refl; actions = refl; unused = λ _. (refl, refl) }
 
-  pub places_more : (log : List (Event S)) (e : Event S) (ss ss' ss'' : List S) (xs xs' xs'' : List ℕ) → PlacesKept b log ss ss' xs xs' → drop (b + 1) ss'' ≡ drop (b + 1) ss' → drop b xs'' ≡ drop b xs' → (Unplanned e.answer → (ss'' ≡ ss') × (xs'' ≡ xs')) → PlacesKept b (log ++ (e ∷ [])) ss ss'' xs xs''
-  places_more log e ss ss' ss'' xs xs' xs'' kept states actions unused =
+  -- one call more, with r steps left of the bound
+  pub places_more : {F : Type 0} {m : Meaning S F} {s : S} {r : ℕ} (log : List (Event S)) (e : Event S) (ss ss' ss'' : List S) (xs xs' xs'' : List ℕ) → r ≤ b → PlacesKept b log ss ss' xs xs' → PlacesHold m s r e.answer ss' ss'' xs' xs'' → PlacesKept b (log ++ (e ∷ [])) ss ss'' xs xs''
+  places_more {r = r} log e ss ss' ss'' xs xs' xs'' h kept here =
       record {
-        states = states ∙ kept.states;
-        actions = actions ∙ kept.actions;
+        states = later (r + 1) (b + 1) ss' ss'' (omega arith) here.states ∙ kept.states;
+        actions = later r b xs' xs'' h here.actions ∙ kept.actions;
         unused = λ none.
             let before = kept.unused (none_planned_front log e none) in
-            let here = unused (none_planned_last log e none) in
-            (here.0 ∙ before.0, here.1 ∙ before.1);
+            let same = here.unused (none_planned_last log e none) in
+            (same.0 ∙ before.0, same.1 ∙ before.1);
       }

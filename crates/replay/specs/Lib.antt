@@ -1,3 +1,4 @@
+pub mod Carried
 pub mod Logged
 pub mod Number
 pub mod Places

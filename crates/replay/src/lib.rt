@@ -8,7 +8,8 @@ mod carrying;
 mod fault;
 
 use campaign::{Call, Campaign, Event};
-use carrying::{carry_out, limit};
+pub use carrying::carry_out;
+use carrying::limit;
 pub use fault::ShortLog;
 use model::ShownModel;
 use trail::Trail;

@@ -1,4 +1,4 @@
-use Rattle.std.proofs.Common.{◌≡◌, ◌+◌, ◌<◌, [], ◌∷◌, ◌++◌, length, drop, sym, refl, ap, ◌∙◌, subst, subst₂, arith}
+use Rattle.std.proofs.Common.{◌≡◌, ◌+◌, ◌<◌, [], ◌∷◌, ◌++◌, length, sym, refl, ap, ◌∙◌, subst, subst₂, arith}
 use Rattle.trail.proofs.Effects.{kept_refl, kept_same, kept_trans, kept_added, kept_cleared, pushed_added}
 use Rattle.trail.specs.Held.{held, room}
 use Rattle.campaign.proofs.Runs.{promised}
@@ -51,9 +51,7 @@ loop-call-preserved g c =
     let cleared = kept_trans (kept_same (length cs) c.room.ensures.same) (kept_cleared (length cs) c.room.new.self c.clear.new.self c.clear.ensures) in
     let fits : length (held log) < room log = omega (arith, inv.0.count, c.loop-call-test.true, inv.4.room_same, cleared.room_same, c.room.ensures.value, c.if-room-calls.false) in
     let added = pushed_added log log' event c.push.result c.push.ensures fits in
-    let states = subst (λ b. drop (b + 1) c.carry_out-answer.new.states ≡ drop (b + 1) c.loop-call.states) inv.2 said.states_kept in
-    let actions = subst (λ b. drop b c.carry_out-answer.new.actions ≡ drop b c.loop-call.actions) inv.2 said.actions_kept in
-    let places = places_more first.bound (held log) event _ c.loop-call.states c.carry_out-answer.new.states _ c.loop-call.actions c.carry_out-answer.new.actions inv.3 states actions said.unused in (
+    let places = places_more first.bound (held log) event _ c.loop-call.states c.carry_out-answer.new.states _ c.loop-call.actions c.carry_out-answer.new.actions (omega (arith, inv.2)) inv.3 said.places in (
       subst (λ es. Going m v first.bound n k cs (i + 1) es l') (ap (λ d. held log ++ (record { call = d; answer = a } ∷ [])) carried ∙ sym added.holds) more,
       said.leaves.model ∙ inv.1,
       said.leaves.bound ∙ inv.2,
