@@ -1,6 +1,7 @@
 -- What a plan says to a crew. Assumes nothing.
 use Rattle.std.proofs.Common.{◌≡◌, ℕ, ◌≤◌, List, [], ◌∷◌, length, Ok, sym, refl, ap, ◌∙◌, subst, inl, inr, arith}
 use Rattle.model.specs.Meaning.{Meaning}
+use Rattle.planner.proofs.Plans.{way_within}
 use Rattle.planner.proofs.Ways.{true_not_false}
 use Rattle.planner.specs.Leads.{Leads, NoWay, NotAfter, Passes}
 use Rattle.planner.specs.Planned.{Planned}
@@ -13,14 +14,9 @@ use Rattle.campaign.specs.AdviceOf.{advice_of}
 use Rattle.campaign.specs.Says.{Ordered, Answered, Advised}
 use Rattle.campaign.specs.declared.answer.Answer.TheVariants as answers
 
-no_way_not_reached : answers.Reached ≡ answers.NoWay → ⊥
-no_way_not_reached e = let z : ◌≡◌ {A = ℕ} 0 1 = cc in omega arith
-
 module _ {S F : Type 0} (m : Meaning S F) (s : S) (r d : ℕ) (t t' : Trail S) (u u' : Trail ℕ) (p : Planned m s r t u (Ok (Steps d)) t' u') where
   some_way : NoWay m s r → ⊥
-  some_way none =
-      let x = p.says.1.distance.reached in
-      none x.0 (omega (arith, x.1, p.says.1.within)) x.2
+  some_way = way_within m s r d p.says.1.distance p.says.1.within
 
   not_after_head : (x y : ℕ) (xs ys : List ℕ) → NotAfter (x ∷ xs) (y ∷ ys) → x ≤ y
   not_after_head x y xs ys (inl h) = omega arith
@@ -40,7 +36,7 @@ module _ {S F : Type 0} (m : Meaning S F) (s : S) (r d : ℕ) (t t' : Trail S) (
   answered : (path : List ℕ) → held u' ≡ path → Answered m s r (of_ask (Ok (advice_of path d)))
   answered [] e =
       record {
-        true_when_said = λ q. absurd (no_way_not_reached q);
+        true_when_said = λ q. absurd cc;
         said_when_true = λ none. absurd (some_way none);
         otherwise = λ _. record {
           d = d;
@@ -52,7 +48,7 @@ module _ {S F : Type 0} (m : Meaning S F) (s : S) (r d : ℕ) (t t' : Trail S) (
       }
   answered (x ∷ xs) e =
       record {
-        true_when_said = λ q. absurd (let z : ◌≡◌ {A = ℕ} 0 1 = cc in omega arith);
+        true_when_said = λ q. absurd cc;
         said_when_true = λ none. absurd (some_way none);
         otherwise = λ _. record {
           d = d;

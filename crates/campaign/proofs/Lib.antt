@@ -1,2 +1,4 @@
 mod Advising
+pub mod Kept
 pub mod Runs
+mod Search

@@ -1,31 +1,23 @@
 -- What holds along every run of calls that follows an opening. Assumes nothing.
 use Rattle.std.proofs.Common.{◌≡◌, ℕ, zero, suc, ◌+◌, ◌-◌, Bool, true, false, cond, List, [], ◌∷◌, ◌++◌, length, replicate, Some, None, Ok, Option, sym, refl, ap, ◌∙◌, subst, arith}
+use Rattle.std.specs.Prelude.{IfSome}
+use Rattle.std.specs.Result.{result_unwrap_or}
 use native.Mathlib.Decide.{dec_le, dec_lt}
 use Rattle.model.specs.Meaning.{Meaning, Lawful}
 use Rattle.model.specs.Shown.{Shown}
+use Rattle.planner.proofs.Plans.{same_distance}
 use Rattle.planner.specs.Leads.{Leads, Distance}
-use Rattle.campaign.specs.Ledger.{opening, moved, reckon, reckoned, left}
+use Rattle.campaign.specs.Ledger.{reckon, reckoned, left}
 use Rattle.campaign.specs.Promise.{Follows, Mark, done, failed, found, mark, marks, ask_event, done_event, Asking, Arriving, Due, Standing, Nearing, Promised}
 use Rattle.campaign.specs.Says.{Told, Advised, AskSays, Says}
+use Rattle.campaign.specs.Sound.{Sound}
 use Rattle.campaign.specs.declared.answer.Answer.{Answer}
 use Rattle.campaign.specs.declared.answer.Answer.TheVariants as answers
 use Rattle.campaign.specs.declared.call.Call.{Call}
 use Rattle.campaign.specs.declared.call.Call.TheVariants as calls
 use Rattle.campaign.specs.declared.call.Event.{Event}
-use Rattle.campaign.specs.declared.fault.CampaignFault.{CampaignFault}
 use Rattle.campaign.specs.declared.ledger.Ledger.{Ledger}
 use Rattle.campaign.specs.declared.order.Order.{Order}
-
--- ---- answers that differ
-
-order_not_refused : {o : Order} {f : CampaignFault} → answers.Order o ≡ answers.Refused f → ⊥
-order_not_refused e = let z : ◌≡◌ {A = ℕ} 0 1 = cc in omega arith
-
-order_not_no_way : {o : Order} → answers.Order o ≡ answers.NoWay → ⊥
-order_not_no_way e = let z : ◌≡◌ {A = ℕ} 0 1 = cc in omega arith
-
-order_not_reached : {o : Order} → answers.Order o ≡ answers.Reached → ⊥
-order_not_reached e = let z : ◌≡◌ {A = ℕ} 0 1 = cc in omega arith
 
 same_order : {o p : Order} → answers.Order o ≡ answers.Order p → p ≡ o
 same_order e = cc
@@ -34,35 +26,20 @@ same_order e = cc
 
 none_left : (d : ℕ) → [] ≡ replicate d done → d ≡ 0
 none_left zero e = refl
-none_left (suc d) e = let z : ◌≡◌ {A = ℕ} 0 1 = cc in absurd (omega arith)
+none_left (suc d) e = absurd cc
 
 one_done : (d : ℕ) (rest : List Mark) → done ∷ rest ≡ replicate d done → (k : ℕ) × (d ≡ k + 1) × (rest ≡ replicate k done)
-one_done zero rest e = let z : ◌≡◌ {A = ℕ} 0 1 = cc in absurd (omega arith)
+one_done zero rest e = absurd cc
 one_done (suc d) rest e = (d, omega arith, cc)
 
-not_failed : (d : ℕ) (rest : List Mark) → failed ∷ rest ≡ replicate d done → ⊥
-not_failed zero rest e = let z : ◌≡◌ {A = ℕ} 0 1 = cc in omega arith
-not_failed (suc d) rest e = let z : ◌≡◌ {A = ℕ} 0 1 = cc in omega arith
-
-not_found : (d : ℕ) (rest : List Mark) → found ∷ rest ≡ replicate d done → ⊥
-not_found zero rest e = let z : ◌≡◌ {A = ℕ} 0 1 = cc in omega arith
-not_found (suc d) rest e = let z : ◌≡◌ {A = ℕ} 0 1 = cc in omega arith
+head_done : (x : Mark) (d : ℕ) (rest : List Mark) → x ∷ rest ≡ replicate d done → x ≡ done
+head_done x zero rest e = absurd cc
+head_done x (suc d) rest e = cc
 
 abbrev ledger : {S : Type 0} → S → ℕ → Option Order → Ledger S
 ledger s n out = record { stands = s; reports = n; out = out }
 
--- What every run keeps true of the ledger.
-record Sound {S F : Type 0} (m : Meaning S F) (b : ℕ) (l : Ledger S) : Type 0 where
-  state : m.is_state l.stands ≡ true
-  order : (o : Order) → l.out ≡ Some o → Due m l.stands (left b l) o
-
 module _ {S F : Type 0} (m : Meaning S F) where
-  same_distance : (s : S) (d e : ℕ) → Distance m s d → Distance m s e → d ≡ e
-  same_distance s d e p q =
-      let x = p.reached in
-      let y = q.reached in
-      omega (arith, p.least y.0 y.2, q.least x.0 x.2, x.1, y.1)
-
   -- at distance 0 the goal is met
   arrived : (s : S) → Distance m s 0 → m.at_goal s ≡ true
   arrived s p = by_list p.reached.0 p.reached.1 p.reached.2
@@ -79,11 +56,11 @@ module _ {S F : Type 0} (m : Meaning S F) where
     leads_there : m.step s o.action ≡ Ok there
     leads_there = due.begins.2.1
 
-    moves_there : moved (m.step s o.action) s ≡ there
-    moves_there = ap (λ r. moved r s) leads_there
+    moves_there : result_unwrap_or (m.step s o.action) s ≡ there
+    moves_there = ap (λ r. result_unwrap_or r s) leads_there
 
     -- done brings the goal one nearer
-    brought_nearer : Distance m (moved (m.step s o.action) s) (o.steps - 1)
+    brought_nearer : Distance m (result_unwrap_or (m.step s o.action) s) (o.steps - 1)
     brought_nearer =
         subst (λ t. Distance m t (o.steps - 1)) (sym moves_there)
         (record {
@@ -97,39 +74,36 @@ module _ {S F : Type 0} (m : Meaning S F) where
       elim (dec_lt 0 told.d) [
         | yes h ↦ let given = told.unmet h in
             subst (λ p. Due m s r p) (same_order given.said) (record { positive = h; within = told.within; distance = told.distance; begins = given.begins })
-        | no h ↦ absurd (order_not_reached (told.met (omega arith)))
+        | no h ↦ absurd (cc (told.met (omega arith)))
       ]
 
-  due_when_advised : (s : S) (r x y : ℕ) (o : Order) → m.is_state s ≡ true → Advised m s r x y (answers.Order o) → Due m s r o
+  pub due_when_advised : (s : S) (r x y : ℕ) (o : Order) → m.is_state s ≡ true → Advised m s r x y (answers.Order o) → Due m s r o
   due_when_advised s r x y o state given =
       elim (dec_le (r + 1) x) [
-        | no h ↦ absurd (order_not_refused (given.few_states state (omega arith)))
+        | no h ↦ absurd (cc (given.few_states state (omega arith)))
         | yes h ↦ elim (dec_le r y) [
-          | no k ↦ absurd (order_not_refused (given.few_actions state h (omega arith)))
+          | no k ↦ absurd (cc (given.few_actions state h (omega arith)))
           | yes k ↦ let said = given.advice state h k in
-              due_when_told s r o (said.otherwise (λ none. order_not_no_way (said.said_when_true none)))
+              due_when_told s r o (said.otherwise (λ none. cc (said.said_when_true none)))
         ]
       ]
 
-module _ {S F : Type 0} (m : Meaning S F) (law : Lawful m) (v : Shown S) (b : ℕ) where
-  sound_opening : Sound m b (opening m)
-  sound_opening = record { state = law.start_state; order = λ o e. absurd (let z : ◌≡◌ {A = ℕ} 0 1 = cc in omega arith) }
-
   -- with no order out it is enough that the plant stands at a state
-  sound_idle : (s : S) (n : ℕ) → m.is_state s ≡ true → Sound m b (ledger s n None)
-  sound_idle s n h = record { state = h; order = λ o e. absurd (let z : ◌≡◌ {A = ℕ} 0 1 = cc in omega arith) }
+  pub sound_idle : (b : ℕ) (s : S) (n : ℕ) → m.is_state s ≡ true → Sound m b (ledger s n None)
+  sound_idle b s n h = record { state = h; order = tt }
 
-  sound_ordered : (s : S) (n : ℕ) (o : Order) → m.is_state s ≡ true → Due m s (b - n) o → Sound m b (ledger s n (Some o))
-  sound_ordered s n o h due = record { state = h; order = λ p e. subst (λ q. Due m s (b - n) q) (let same : o ≡ p = cc in same) due }
+  pub sound_ordered : (b : ℕ) (s : S) (n : ℕ) (o : Order) → m.is_state s ≡ true → Due m s (b - n) o → Sound m b (ledger s n (Some o))
+  sound_ordered b s n o h due = record { state = h; order = due }
 
+module _ {S F : Type 0} (m : Meaning S F) (law : Lawful m) (v : Shown S) (b : ℕ) where
   -- a finding that is accepted, or not
   sound_found : (s t : S) (n : ℕ) (is : Bool) → m.is_state t ≡ is → m.is_state s ≡ true → Sound m b (cond is (ledger t n None) (ledger s n None))
-  sound_found s t n true e h = sound_idle t n e
-  sound_found s t n false e h = sound_idle s n h
+  sound_found s t n true e h = sound_idle m b t n e
+  sound_found s t n false e h = sound_idle m b s n h
 
   -- one call
   sound_next : (s : S) (n : ℕ) (out : Option Order) (c : Call S) (a : Answer) → Says m v b (ledger s n out) c a → Sound m b (ledger s n out) → Sound m b (reckon m (ledger s n out) c a)
-  sound_next s n None (calls.Ask x y) (answers.Order o) says sound = sound_ordered s n o sound.state (due_when_advised m s (b - n) x y o sound.state (says.none refl))
+  sound_next s n None (calls.Ask x y) (answers.Order o) says sound = sound_ordered m b s n o sound.state (due_when_advised m s (b - n) x y o sound.state (says.none refl))
   sound_next s n None (calls.Ask x y) answers.Reached says sound = sound
   sound_next s n None (calls.Ask x y) answers.NoWay says sound = sound
   sound_next s n None (calls.Ask x y) (answers.Accepted k) says sound = sound
@@ -138,10 +112,10 @@ module _ {S F : Type 0} (m : Meaning S F) (law : Lawful m) (v : Shown S) (b : �
   sound_next s n (Some o) (calls.Ask x y) a says sound = sound
   sound_next s n None calls.Done a says sound = sound
   sound_next s n (Some o) calls.Done a says sound =
-      let due = sound.order o refl in
-      sound_idle _ (n + 1) (ap m.is_state (moves_there m s (b - n) o due) ∙ law.step_state s o.action _ (leads_there m s (b - n) o due))
+      let due = sound.order in
+      sound_idle m b _ (n + 1) (ap m.is_state (moves_there m s (b - n) o due) ∙ law.step_state s o.action _ (leads_there m s (b - n) o due))
   sound_next s n None calls.Failed a says sound = sound
-  sound_next s n (Some o) calls.Failed a says sound = sound_idle s (n + 1) sound.state
+  sound_next s n (Some o) calls.Failed a says sound = sound_idle m b s (n + 1) sound.state
   sound_next s n None (calls.Find t) a says sound = sound_found s t n (m.is_state t) refl sound.state
   sound_next s n (Some o) (calls.Find t) a says sound = sound
   sound_next s n out (calls.Show p) a says sound = sound
@@ -163,16 +137,16 @@ module _ {S F : Type 0} (m : Meaning S F) (law : Lawful m) (v : Shown S) (b : �
   toward_next s n (Some o) (calls.Ask x y) a d rest sound far e = (d, far, e)
   toward_next s n None calls.Done a d rest sound far e = (d, far, e)
   toward_next s n (Some o) calls.Done a d rest sound far e =
-      let due = sound.order o refl in
+      let due = sound.order in
       let one = one_done d rest e in
       let less : o.steps - 1 ≡ one.0 = omega (arith, same_distance m s d o.steps far due.distance, one.1) in
-      (one.0, subst (λ k. Distance m (moved (m.step s o.action) s) k) less (brought_nearer m s (b - n) o due), one.2)
+      (one.0, subst (λ k. Distance m (result_unwrap_or (m.step s o.action) s) k) less (brought_nearer m s (b - n) o due), one.2)
   toward_next s n None calls.Failed a d rest sound far e = (d, far, e)
-  toward_next s n (Some o) calls.Failed a d rest sound far e = absurd (not_failed d rest e)
+  toward_next s n (Some o) calls.Failed a d rest sound far e = absurd (cc (head_done failed d rest e))
   toward_next s n None (calls.Find t) a d rest sound far e = by_state (m.is_state t) e
     where
       by_state : (is : Bool) → cond is (found ∷ []) [] ++ rest ≡ replicate d done → (k : ℕ) × Distance m (cond is (ledger t n None) (ledger s n None)).stands k × (rest ≡ replicate k done)
-      by_state true f = absurd (not_found d rest f)
+      by_state true f = absurd (cc (head_done found d rest f))
       by_state false f = (d, far, f)
   toward_next s n (Some o) (calls.Find t) a d rest sound far e = (d, far, e)
   toward_next s n out (calls.Show p) a d rest sound far e = (d, far, e)
@@ -205,12 +179,12 @@ module _ {S F : Type 0} (m : Meaning S F) (law : Lawful m) (v : Shown S) (b : �
   -- an order that was answered is out, and due
   due_after : (s : S) (n : ℕ) (out : Option Order) (x y : ℕ) (o : Order) → Sound m b (ledger s n out) → AskSays m b (ledger s n out) x y (answers.Order o) → Due m (reckon m (ledger s n out) (calls.Ask x y) (answers.Order o)).stands (b - n) o
   due_after s n None x y o sound says = due_when_advised m s (b - n) x y o sound.state (says.none refl)
-  due_after s n (Some p) x y o sound says = absurd (order_not_refused (says.out p refl))
+  due_after s n (Some p) x y o sound says = absurd (cc (says.out p refl))
 
   -- where an order is out, done moves the plant by its action
-  done_moves : (s : S) (n : ℕ) (out : Option Order) (o : Order) (a : Answer) → out ≡ Some o → (reckon m (ledger s n out) calls.Done a).stands ≡ moved (m.step s o.action) s
-  done_moves s n None o a e = absurd (let z : ◌≡◌ {A = ℕ} 0 1 = cc in omega arith)
-  done_moves s n (Some p) o a e = let same : p ≡ o = cc in ap (λ q. moved (m.step s q.action) s) same
+  done_moves : (s : S) (n : ℕ) (out : Option Order) (o : Order) (a : Answer) → out ≡ Some o → (reckon m (ledger s n out) calls.Done a).stands ≡ result_unwrap_or (m.step s o.action) s
+  done_moves s n None o a e = absurd cc
+  done_moves s n (Some p) o a e = let same : p ≡ o = cc in ap (λ q. result_unwrap_or (m.step s q.action) s) same
 
   -- ---- the promise, for a run that begins at a ledger where all is in order
 
@@ -249,7 +223,7 @@ module _ {S F : Type 0} (m : Meaning S F) (law : Lawful m) (v : Shown S) (b : �
     promised_standing : Standing m b l es
     promised_standing before after splits k at =
         let sound = subst (λ z. Sound m b z) (sym at) (sound_before before after splits) in
-        (sound.state, sound.order)
+        (sound.state, λ o out. subst (λ x. IfSome x (Due m k.stands (left b k))) out sound.order)
 
     promised_nearing : Nearing m l es
     promised_nearing before after a splits k at o out =
@@ -257,11 +231,11 @@ module _ {S F : Type 0} (m : Meaning S F) (law : Lawful m) (v : Shown S) (b : �
         let next = done_moves k.stands k.reports k.out o a out in
         (due.distance, subst (λ t. Distance m t (o.steps - 1)) (sym next) (brought_nearer m k.stands (left b k) o due))
 
-  pub promised : (es : List (Event S)) → Follows m v b (opening m) es → Promised m b (opening m) es
-  promised es f =
+  pub promised : (l : Ledger S) → Sound m b l → (es : List (Event S)) → Follows m v b l es → Promised m b l es
+  promised l first es f =
       record {
-        asking = promised_asking (opening m) sound_opening es f;
-        arriving = promised_arriving (opening m) sound_opening es f;
-        standing = promised_standing (opening m) sound_opening es f;
-        nearing = promised_nearing (opening m) sound_opening es f;
+        asking = promised_asking l first es f;
+        arriving = promised_arriving l first es f;
+        standing = promised_standing l first es f;
+        nearing = promised_nearing l first es f;
       }

@@ -1,5 +1,6 @@
 -- The ledger of a campaign, reckoned from the model's meaning, the calls and asking's answers alone.
-use Rattle.std.specs.Prelude.{ℕ, ◌+◌, ◌-◌, cond, List, [], ◌∷◌, Some, None, Ok, Err, Result}
+use Rattle.std.specs.Prelude.{ℕ, ◌+◌, ◌-◌, cond, List, [], ◌∷◌, Some, None}
+use Rattle.std.specs.Result.{result_unwrap_or}
 use Rattle.model.specs.Meaning.{Meaning}
 use Rattle.campaign.specs.declared.answer.Answer.{Answer}
 use Rattle.campaign.specs.declared.answer.Answer.TheVariants as answers
@@ -11,11 +12,6 @@ use Rattle.campaign.specs.declared.ledger.Ledger.{Ledger}
 -- the plant stands at the model's start, with no report and no order
 abbrev pub opening : {S F : Type 0} → Meaning S F → Ledger S
 opening m = record { stands = m.start; reports = 0; out = None }
-
--- the state that a step gives, if it gives one; else the one that it was tried in
-abbrev pub moved : {S F : Type 0} → Result S F → S → S
-moved (Ok t) s = t
-moved (Err f) s = s
 
 -- a report is added and the order is closed; the plant then stands at s
 abbrev pub reported : {S : Type 0} → Ledger S → S → Ledger S
@@ -31,10 +27,11 @@ with_order l (answers.Number n) = l
 with_order l (answers.Refused f) = l
 
 -- The ledger after one call. With an order out asking and finding are refused, with none out done and failed are, and so
--- is finding a value that is not a state; what is refused changes nothing.
+-- is finding a value that is not a state; what is refused changes nothing. Done moves the plant to the state that the step gives,
+-- if it gives one; else it stays.
 abbrev pub reckon : {S F : Type 0} → Meaning S F → Ledger S → Call S → Answer → Ledger S
 reckon m l (calls.Ask x y) a = elim l.out [ None ↦ with_order l a | Some o ↦ l ]
-reckon m l calls.Done a = elim l.out [ None ↦ l | Some o ↦ reported l (moved (m.step l.stands o.action) l.stands) ]
+reckon m l calls.Done a = elim l.out [ None ↦ l | Some o ↦ reported l (result_unwrap_or (m.step l.stands o.action) l.stands) ]
 reckon m l calls.Failed a = elim l.out [ None ↦ l | Some o ↦ reported l l.stands ]
 reckon m l (calls.Find s) a =
     elim l.out [ None ↦ cond (m.is_state s) (record { stands = s; reports = l.reports; out = None }) l | Some o ↦ l ]

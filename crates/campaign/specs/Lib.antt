@@ -6,3 +6,4 @@ pub mod Ledger
 pub mod Number
 pub mod Promise
 pub mod Says
+pub mod Sound

@@ -1,7 +1,8 @@
 // Following a campaign: a crew asks for the next step, carries it out and reports; the campaign keeps the ledger.
 #![tactic(auto)]
 
-ghost use Rattle.std.specs.Prelude.{◌≡◌, ◌<◌, ◌≤◌, true, is_some};
+ghost use Rattle.std.specs.Prelude.{◌≤◌};
+ghost use Rattle.campaign.specs.Sound.{Sound};
 
 mod answer;
 mod asking;
@@ -29,6 +30,6 @@ pub struct Campaign<M: Model> {
     bound: u16,
     ledger: Ledger<M::State>,
     ghost read: { bound ≤ 24 },
-    // An order is given only while steps are left for it.
-    ghost unspent: { is_some ledger.out ≡ true → ledger.reports < bound },
+    // Truncated, since an order may be right in more than one way.
+    ghost sound: { ∥ Sound (M.Model.meaning model) bound ledger ∥₁ },
 }

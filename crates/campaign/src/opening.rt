@@ -21,23 +21,15 @@ impl<M: Model> Campaign<M> {
         ensures promise { Promise (M.Model.meaning result.model) result.bound result.ledger }
     {
         let most = bound.min(HIGHEST);
-        let ledger = begin(&model, most);
+        let ledger = Ledger {
+            stands: model.start(),
+            reports: 0,
+            out: None,
+        };
         Campaign {
             model,
             bound: most,
             ledger,
         }
-    }
-}
-
-// The first ledger. From there every run of calls under the bound keeps the promise.
-fn begin<M: Model>(model: &M, most: u16) -> Ledger<M::State>
-    ensures ledger { result ≡ opening (M.Model.meaning model.now) }
-    ensures promise { Promise (M.Model.meaning model.now) most result }
-{
-    Ledger {
-        stands: model.start(),
-        reports: 0,
-        out: None,
     }
 }

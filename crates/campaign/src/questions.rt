@@ -1,14 +1,17 @@
 // What a campaign tells of itself. Nothing that is asked changes it.
-ghost use Rattle.std.specs.Prelude.{◌≡◌};
+ghost use Rattle.std.specs.Prelude.{◌≡◌, true, IfSome};
 ghost use Rattle.campaign.specs.Ledger.{left};
+ghost use Rattle.campaign.specs.Promise.{Due, Promise};
 
 use super::Campaign;
 use super::order::Order;
 use model::Model;
 
 impl<M: Model> Campaign<M> {
+    // The model. Whatever calls follow, their answers keep the promise for it.
     pub fn model(&self) -> &M
-        ensures { result.now ≡ self.now.model }
+        ensures value { result.now ≡ self.now.model }
+        ensures promise { Promise (M.Model.meaning self.now.model) self.now.bound self.now.ledger }
     {
         &self.model
     }
@@ -21,9 +24,10 @@ impl<M: Model> Campaign<M> {
         model
     }
 
-    // Where the plant stands.
+    // Where the plant stands, which always is a state.
     pub fn stands(&self) -> M::State
-        ensures { result ≡ self.now.ledger.stands }
+        ensures value { result ≡ self.now.ledger.stands }
+        ensures state { (M.Model.meaning self.now.model).is_state result ≡ true }
     {
         self.ledger.stands
     }
@@ -35,9 +39,10 @@ impl<M: Model> Campaign<M> {
         self.ledger.reports
     }
 
-    // The order out, if there is one.
+    // The order out, if there is one. It is right where the plant stands.
     pub fn order(&self) -> Option<Order>
-        ensures { result ≡ self.now.ledger.out }
+        ensures value { result ≡ self.now.ledger.out }
+        ensures due { IfSome result (Due (M.Model.meaning self.now.model) self.now.ledger.stands (left self.now.bound self.now.ledger)) }
     {
         self.ledger.out
     }

@@ -1,5 +1,5 @@
 // Reports on the order out.
-ghost use Rattle.std.specs.Prelude.{◌≡◌, ◌+◌, ◌<◌};
+ghost use Rattle.std.specs.Prelude.{◌≡◌, ◌+◌, ◌<◌, true};
 ghost use Rattle.campaign.specs.Answers.{of_report};
 ghost use Rattle.campaign.specs.Leaves.{Leaves};
 ghost use Rattle.campaign.specs.Ledger.{reported};
@@ -40,7 +40,8 @@ impl<M: Model> Campaign<M> {
 
     // Adds a report and closes the order, with the plant at `stands` from then on.
     fn report(&mut self, stands: M::State) -> u16
-        requires { self.old.ledger.reports < self.old.bound }
+        requires state { (M.Model.meaning self.old.model).is_state stands ≡ true }
+        requires unspent { self.old.ledger.reports < self.old.bound }
         ensures value { result ≡ self.old.ledger.reports + 1 }
         ensures ledger { self.new.ledger ≡ reported self.old.ledger stands }
         ensures model { self.new.model ≡ self.old.model }

@@ -1,7 +1,7 @@
 mod Checks
 mod Lasts
 mod Paths
-mod Plans
+pub mod Plans
 mod Progress
 mod Turning
 mod Turns

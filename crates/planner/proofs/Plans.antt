@@ -32,13 +32,13 @@ module _ {S F : Type 0} (m : Meaning S F) (s : S) where
         first = f;
       }
 
-  same_distance : (d e : ℕ) → Distance m s d → Distance m s e → d ≡ e
+  pub same_distance : (d e : ℕ) → Distance m s d → Distance m s e → d ≡ e
   same_distance d e p q =
       let x = p.reached in
       let y = q.reached in
       omega (arith, p.least y.0 y.2, q.least x.0 x.2, x.1, y.1)
 
-  way_within : (r d : ℕ) → Distance m s d → d ≤ r → NoWay m s r → ⊥
+  pub way_within : (r d : ℕ) → Distance m s d → d ≤ r → NoWay m s r → ⊥
   way_within r d p h none = let x = p.reached in none x.0 (omega (arith, x.1)) x.2
 
   refused_unready : (r : ℕ) (t : Trail S) (u : Trail ℕ) (f : PlanFault) (t' : Trail S) (u' : Trail ℕ) → PlanSays m s r t u (Err f) t' u' → Ready m s r t u → ⊥

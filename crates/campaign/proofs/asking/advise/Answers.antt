@@ -1,6 +1,5 @@
-use Rattle.std.proofs.Common.{◌≡◌, min, Ok, sym, ap, ◌∙◌, subst, subst₂, arith}
+use Rattle.std.proofs.Common.{◌≡◌, min, Ok, sym, subst, subst₂, arith}
 use Rattle.planner.specs.Planned.{Planned}
-use Rattle.planner.specs.declared.planning.PlanAnswer.TheVariants.{Steps}
 use Rattle.trail.specs.Held.{room}
 use Rattle.campaign.specs.Answers.{of_ask}
 use Rattle.campaign.specs.Asked.{Asked}
@@ -18,8 +17,7 @@ returns-in-Steps g c =
     let u = c.args.actions.now in
     let u' = c.plan.new.actions in
     let read : min c.args.most 24 ≡ c.args.most = omega (arith, c.requires) in
-    let found : c.plan.result ≡ Ok (Steps d) = c.in_ok-steps.was ∙ ap Ok c.in-Steps.is in
-    let p = subst₂ (λ r a. Planned m s r t u a t' u') read found c.plan.ensures in
+    let p = subst₂ (λ r a. Planned m s r t u (Ok a) t' u') read c.in-Steps.is c.in_ok-steps.ensures in
     let said = sym c.head.ensures.value in
     record {
       says = subst (λ a. Advised m s c.args.most (room t) (room u) (of_ask (Ok a))) said (steps_advised m s c.args.most d t t' u u' p);
