@@ -95,6 +95,29 @@ module _ {S F : Type 0} (m : Meaning S F) where
   pub sound_ordered : (b : ℕ) (s : S) (n : ℕ) (o : Order) → m.is_state s ≡ true → Due m s (b - n) o → Sound m b (ledger s n (Some o))
   sound_ordered b s n o h due = record { state = h; order = due }
 
+-- ---- runs that follow one another
+
+module _ {S F : Type 0} (m : Meaning S F) where
+  pub reckoned-append : (xs ys : List (Event S)) (l : Ledger S) → reckoned m l (xs ++ ys) ≡ reckoned m (reckoned m l xs) ys
+  reckoned-append [] ys l = refl
+  reckoned-append (e ∷ xs) ys l = reckoned-append xs ys (reckon m l e.call e.answer)
+
+module _ {S F : Type 0} (m : Meaning S F) (v : Shown S) (b : ℕ) where
+  follows_front : (xs ys : List (Event S)) (l : Ledger S) → Follows m v b l (xs ++ ys) → Follows m v b l xs
+  follows_front [] ys l f = tt
+  follows_front (e ∷ xs) ys l f = (f.0, follows_front xs ys (reckon m l e.call e.answer) f.1)
+
+  follows_rest : (xs ys : List (Event S)) (l : Ledger S) → Follows m v b l (xs ++ ys) → Follows m v b (reckoned m l xs) ys
+  follows_rest [] ys l f = f
+  follows_rest (e ∷ xs) ys l f = follows_rest xs ys (reckon m l e.call e.answer) f.1
+
+  -- a run goes on by one call
+  pub follows_push : (xs : List (Event S)) (l : Ledger S) (e : Event S) → Follows m v b l xs → Says m v b (reckoned m l xs) e.call e.answer → Follows m v b l (xs ++ (e ∷ []))
+  follows_push [] l e f says = (says, tt)
+  follows_push (x ∷ xs) l e f says = (f.0, follows_push xs (reckon m l x.call x.answer) e f.1 says)
+
+-- ---- what every run keeps
+
 module _ {S F : Type 0} (m : Meaning S F) (law : Lawful m) (v : Shown S) (b : ℕ) where
   -- a finding that is accepted, or not
   sound_found : (s t : S) (n : ℕ) (is : Bool) → m.is_state t ≡ is → m.is_state s ≡ true → Sound m b (cond is (ledger t n None) (ledger s n None))
@@ -159,23 +182,6 @@ module _ {S F : Type 0} (m : Meaning S F) (law : Lawful m) (v : Shown S) (b : �
       let next = toward_next l.stands l.reports l.out e.call e.answer d (marks m l' es) sound far said in
       toward es l' next.0 (sound_next l.stands l.reports l.out e.call e.answer f.0 sound) f.1 next.1 next.2
 
-  pub reckoned-append : (xs ys : List (Event S)) (l : Ledger S) → reckoned m l (xs ++ ys) ≡ reckoned m (reckoned m l xs) ys
-  reckoned-append [] ys l = refl
-  reckoned-append (e ∷ xs) ys l = reckoned-append xs ys (reckon m l e.call e.answer)
-
-  follows_front : (xs ys : List (Event S)) (l : Ledger S) → Follows m v b l (xs ++ ys) → Follows m v b l xs
-  follows_front [] ys l f = tt
-  follows_front (e ∷ xs) ys l f = (f.0, follows_front xs ys (reckon m l e.call e.answer) f.1)
-
-  follows_rest : (xs ys : List (Event S)) (l : Ledger S) → Follows m v b l (xs ++ ys) → Follows m v b (reckoned m l xs) ys
-  follows_rest [] ys l f = f
-  follows_rest (e ∷ xs) ys l f = follows_rest xs ys (reckon m l e.call e.answer) f.1
-
-  -- a run goes on by one call
-  pub follows_push : (xs : List (Event S)) (l : Ledger S) (e : Event S) → Follows m v b l xs → Says m v b (reckoned m l xs) e.call e.answer → Follows m v b l (xs ++ (e ∷ []))
-  follows_push [] l e f says = (says, tt)
-  follows_push (x ∷ xs) l e f says = (f.0, follows_push xs (reckon m l x.call x.answer) e f.1 says)
-
   -- an order that was answered is out, and due
   due_after : (s : S) (n : ℕ) (out : Option Order) (x y : ℕ) (o : Order) → Sound m b (ledger s n out) → AskSays m b (ledger s n out) x y (answers.Order o) → Due m (reckon m (ledger s n out) (calls.Ask x y) (answers.Order o)).stands (b - n) o
   due_after s n None x y o sound says = due_when_advised m s (b - n) x y o sound.state (says.none refl)
@@ -194,10 +200,10 @@ module _ {S F : Type 0} (m : Meaning S F) (law : Lawful m) (v : Shown S) (b : �
       whole = subst (λ xs. Follows m v b l xs) splits f
 
       sound_before : Sound m b (reckoned m l before)
-      sound_before = sound_run before l first (follows_front before rest l whole)
+      sound_before = sound_run before l first (follows_front m v b before rest l whole)
 
       after_before : Follows m v b (reckoned m l before) rest
-      after_before = follows_rest before rest l whole
+      after_before = follows_rest m v b before rest l whole
 
     promised_asking : Asking m b l es
     promised_asking before after x y a splits k at none hx hy =
@@ -214,10 +220,10 @@ module _ {S F : Type 0} (m : Meaning S F) (law : Lawful m) (v : Shown S) (b : �
         let j' = reckon m j (calls.Ask x y) (answers.Order o) in
         let sound = sound_before before rest splits in
         let follows = after_before before rest splits in
-        let here : k ≡ j' = at ∙ reckoned-append before (ordering ∷ []) l in
+        let here : k ≡ j' = at ∙ reckoned-append m before (ordering ∷ []) l in
         let due = due_after j.stands j.reports j.out x y o sound follows.0 in
         let sound' = sound_next j.stands j.reports j.out (calls.Ask x y) (answers.Order o) follows.0 sound in
-        let end = toward during j' o.steps sound' (follows_front during after j' follows.1) due.distance (subst (λ z. marks m z during ≡ replicate o.steps done) here said) in
+        let end = toward during j' o.steps sound' (follows_front m v b during after j' follows.1) due.distance (subst (λ z. marks m z during ≡ replicate o.steps done) here said) in
         ap (λ z. m.at_goal (reckoned m z during).stands) here ∙ end
 
     promised_standing : Standing m b l es

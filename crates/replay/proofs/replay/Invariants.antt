@@ -1,16 +1,10 @@
-use Rattle.std.proofs.Common.{◌≡◌, length}
-use Rattle.trail.specs.Held.{held, KeptFrom}
-use Rattle.replay.specs.Places.{PlacesKept}
-use Rattle.replay.proofs.Logs.{Going}
+use Rattle.std.proofs.Common.{take}
+use Rattle.planner.specs.Planned.{bound_read}
+use Rattle.replay.specs.Replayed.{Replayed}
 use Rattle.replay.proofs.replay.Given as goal
 
+-- what the contract says of all the calls, of those carried out so far
 abbrev pub invariant-loop-call : goal.invariant-loop-call
 invariant-loop-call g l =
-    let first = l.initial.campaign in
-    let m = g.M.Model.meaning first.model in
-    let v = g.M.ShownModel.shown first.model in
-    Going m v first.bound (length l.initial.states) (length l.initial.actions) l.calls l.call-index (held l.log) l.campaign.ledger
-    × (l.campaign.model ≡ first.model)
-    × (l.campaign.bound ≡ first.bound)
-    × PlacesKept first.bound (held l.log) l.initial.states l.states l.initial.actions l.actions
-    × KeptFrom (length l.calls) l.initial.log l.log
+    let model = l.fn.model in
+    Replayed (g.M.Model.meaning model) (g.M.ShownModel.shown model) (bound_read l.fn.bound) model (take l.call-index l.calls) l.fn.states l.states l.fn.actions l.actions l.fn.log l.log l.campaign
