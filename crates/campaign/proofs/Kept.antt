@@ -1,5 +1,5 @@
 -- What the invariant of every campaign gives. Assumes nothing.
-use Rattle.std.proofs.Common.{◌≡◌, ℕ, ◌<◌, true, ◌∷◌, Some, None, Ok, Err, Option, Result, refl, subst, arith}
+use Rattle.std.proofs.Common.{◌≡◌, ℕ, ◌<◌, true, ◌∷◌, Some, None, Ok, Err, Option, Result, sym, refl, ap, ◌∙◌, subst, arith}
 use Rattle.std.proofs.Math.Bool.{Bool-set}
 use Rattle.std.proofs.Math.Logic.{∥∥₁_elim, ∥∥₁_map}
 use Rattle.std.specs.Coded.{le_prop}
@@ -9,8 +9,8 @@ use Rattle.model.specs.Meaning.{Meaning, Lawful}
 use Rattle.campaign.proofs.Runs.{promised}
 use Rattle.campaign.proofs.Search.{begins}
 use Rattle.campaign.specs.Ledger.{left}
-use Rattle.campaign.specs.Promise.{Due, Promise}
-use Rattle.campaign.specs.Sound.{Sound}
+use Rattle.campaign.specs.Promise.{Promise}
+use Rattle.campaign.specs.Sound.{Due, Sound}
 use Rattle.campaign.specs.declared.ledger.Ledger.{Ledger}
 use Rattle.campaign.specs.declared.order.Order.{Order}
 
@@ -27,12 +27,9 @@ module _ {S F : Type 0} (m : Meaning S F) (b : ℕ) (l : Ledger S) (kept : ∥ S
     unspent = ∥∥₁_elim kept le_prop (λ s. let due = due_in s in omega arith)
 
     -- carrying it out leads to a state
-    pub next_state : Lawful m → m.is_state (result_unwrap_or (m.step l.stands o.action) l.stands) ≡ true
-    next_state law = by_step (m.step l.stands o.action) refl
-      where
-        by_step : (r : Result S F) → m.step l.stands o.action ≡ r → m.is_state (result_unwrap_or r l.stands) ≡ true
-        by_step (Ok t) e = law.step_state l.stands o.action t e
-        by_step (Err f) e = state
+    pub next_state : Lawful m → (r : Result S F) (t : S) → r ≡ m.step l.stands o.action → t ≡ result_unwrap_or r l.stands → m.is_state t ≡ true
+    next_state law (Ok u) t e f = ap m.is_state f ∙ law.step_state l.stands o.action u (sym e)
+    next_state law (Err f) t e g = ap m.is_state g ∙ state
 
     -- what is truncated of it either has one proof at most or can be looked for
     due : Lawful m → Due m l.stands (left b l) o

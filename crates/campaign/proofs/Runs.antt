@@ -8,9 +8,9 @@ use Rattle.model.specs.Shown.{Shown}
 use Rattle.planner.proofs.Plans.{same_distance}
 use Rattle.planner.specs.Leads.{Leads, Distance}
 use Rattle.campaign.specs.Ledger.{reckon, reckoned, left}
-use Rattle.campaign.specs.Promise.{Follows, Mark, done, failed, found, mark, marks, ask_event, done_event, Asking, Arriving, Due, Standing, Nearing, Promised}
+use Rattle.campaign.specs.Promise.{Follows, Mark, done, failed, found, mark, marks, ask_event, done_event, Asking, Arriving, Standing, Nearing, Promised}
 use Rattle.campaign.specs.Says.{Told, Advised, AskSays, Says}
-use Rattle.campaign.specs.Sound.{Sound}
+use Rattle.campaign.specs.Sound.{Due, Sound}
 use Rattle.campaign.specs.declared.answer.Answer.{Answer}
 use Rattle.campaign.specs.declared.answer.Answer.TheVariants as answers
 use Rattle.campaign.specs.declared.call.Call.{Call}
@@ -227,13 +227,12 @@ module _ {S F : Type 0} (m : Meaning S F) (law : Lawful m) (v : Shown S) (b : �
         ap (λ z. m.at_goal (reckoned m z during).stands) here ∙ end
 
     promised_standing : Standing m b l es
-    promised_standing before after splits k at =
-        let sound = subst (λ z. Sound m b z) (sym at) (sound_before before after splits) in
-        (sound.state, λ o out. subst (λ x. IfSome x (Due m k.stands (left b k))) out sound.order)
+    promised_standing before after splits k at = subst (λ z. Sound m b z) (sym at) (sound_before before after splits)
 
     promised_nearing : Nearing m l es
     promised_nearing before after a splits k at o out =
-        let due = (promised_standing before (done_event a ∷ after) splits k at).1 o out in
+        let sound = promised_standing before (done_event a ∷ after) splits k at in
+        let due = subst (λ x. IfSome x (Due m k.stands (left b k))) out sound.order in
         let next = done_moves k.stands k.reports k.out o a out in
         (due.distance, subst (λ t. Distance m t (o.steps - 1)) (sym next) (brought_nearer m k.stands (left b k) o due))
 

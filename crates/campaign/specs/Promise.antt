@@ -2,9 +2,10 @@
 use Rattle.std.specs.Prelude.{◌≡◌, ℕ, ◌+◌, ◌-◌, ◌<◌, ◌≤◌, true, cond, List, [], ◌∷◌, ◌++◌, replicate, Some, None}
 use Rattle.model.specs.Meaning.{Meaning}
 use Rattle.model.specs.Shown.{Shown}
-use Rattle.planner.specs.Leads.{Distance, Begins}
+use Rattle.planner.specs.Leads.{Distance}
 use Rattle.campaign.specs.Ledger.{reckon, reckoned, left}
 use Rattle.campaign.specs.Says.{Answered, Says}
+use Rattle.campaign.specs.Sound.{Sound}
 use Rattle.campaign.specs.declared.answer.Answer.{Answer}
 use Rattle.campaign.specs.declared.answer.Answer.TheVariants as answers
 use Rattle.campaign.specs.declared.call.Call.{Call}
@@ -63,21 +64,12 @@ Arriving {S} m l es =
     0 < o.steps → marks m k during ≡ replicate o.steps done →
     m.at_goal (reckoned m k during).stands ≡ true
 
--- An order that is right where the plant stands at s with r steps left: its action begins a list of as many actions as it has
--- steps that leads to the goal, no shorter list does, and that many steps are left.
-pub record Due {S F : Type 0} (m : Meaning S F) (s : S) (r : ℕ) (o : Order) : Type 0 where
-  pub positive : 0 < o.steps
-  pub within : o.steps ≤ r
-  pub distance : Distance m s o.steps
-  pub begins : Begins m s o.steps o.action
-
 -- Wherever the run has come to, the plant stands at a state, and the order out, if there is one, is right there.
 abbrev pub Standing : {S F : Type 0} → Meaning S F → ℕ → Ledger S → List (Event S) → Type 0
 Standing {S} m b l es =
     (before after : List (Event S)) →
     es ≡ before ++ after →
-    (k : Ledger S) → k ≡ reckoned m l before →
-    (m.is_state k.stands ≡ true) × ((o : Order) → k.out ≡ Some o → Due m k.stands (left b k) o)
+    (k : Ledger S) → k ≡ reckoned m l before → Sound m b k
 
 -- An order that is done brings the goal one step nearer.
 abbrev pub Nearing : {S F : Type 0} → Meaning S F → Ledger S → List (Event S) → Type 0

@@ -1,7 +1,8 @@
 // What a campaign tells of itself. Nothing that is asked changes it.
 ghost use Rattle.std.specs.Prelude.{◌≡◌, true, IfSome};
 ghost use Rattle.campaign.specs.Ledger.{left};
-ghost use Rattle.campaign.specs.Promise.{Due, Promise};
+ghost use Rattle.campaign.specs.Promise.{Promise};
+ghost use Rattle.campaign.specs.Sound.{Due};
 
 use super::Campaign;
 use super::order::Order;

@@ -1,5 +1,3 @@
-use Rattle.std.proofs.Common.{ap, ◌∙◌}
-use Rattle.std.specs.Result.{result_unwrap_or}
 use Rattle.campaign.proofs.Kept.{next_state, unspent}
 use Rattle.campaign.proofs.Campaign.done.Goals as goal
 
@@ -9,6 +7,6 @@ report-requires g c =
     let m = g.M.Model.meaning held.model in
     let order = c.in-Some.order in
     record {
-      state = ap m.is_state (c.unwrap_or-next.ensures ∙ ap (λ r. result_unwrap_or r held.ledger.stands) c.step.ensures) ∙ next_state m held.bound held.ledger held.sound order c.in-Some.is (g.met.M.Model.lawful held.model);
+      state = next_state m held.bound held.ledger held.sound order c.in-Some.is (g.met.M.Model.lawful held.model) c.step.result _ c.step.ensures c.unwrap_or-next.ensures;
       unspent = unspent m held.bound held.ledger held.sound order c.in-Some.is;
     }
