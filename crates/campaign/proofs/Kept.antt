@@ -1,5 +1,5 @@
 -- What the invariant of every campaign gives. Assumes nothing.
-use Rattle.std.proofs.Common.{◌≡◌, ℕ, ◌<◌, true, ◌∷◌, Some, None, Ok, Err, Option, Result, sym, refl, ap, ◌∙◌, subst, arith}
+use Rattle.std.proofs.Common.{◌≡◌, ℕ, ◌<◌, ◌≤◌, true, ◌∷◌, Some, None, Ok, Err, Option, Result, sym, refl, ap, ◌∙◌, subst, arith}
 use Rattle.std.proofs.Math.Bool.{Bool-set}
 use Rattle.std.proofs.Math.Logic.{∥∥₁_elim, ∥∥₁_map}
 use Rattle.std.specs.Coded.{le_prop}
@@ -17,6 +17,9 @@ use Rattle.campaign.specs.declared.order.Order.{Order}
 module _ {S F : Type 0} (m : Meaning S F) (b : ℕ) (l : Ledger S) (kept : ∥ Sound m b l ∥₁) where
   pub state : m.is_state l.stands ≡ true
   state = ∥∥₁_elim kept (Bool-set _ _) (λ s. s.state)
+
+  pub within : l.reports ≤ b
+  within = ∥∥₁_elim kept le_prop (λ s. s.within)
 
   module _ (o : Order) (out : l.out ≡ Some o) where
     due_in : Sound m b l → Due m l.stands (left b l) o
@@ -46,7 +49,7 @@ module _ {S F : Type 0} (m : Meaning S F) (b : ℕ) (l : Ledger S) (kept : ∥ S
         }
 
   pub sound : Lawful m → Sound m b l
-  sound law = record { state = state; order = by_order l.out refl }
+  sound law = record { state = state; within = within; order = by_order l.out refl }
     where
       by_order : (out : Option Order) → l.out ≡ out → IfSome out (Due m l.stands (left b l))
       by_order None e = tt

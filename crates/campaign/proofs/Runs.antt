@@ -1,5 +1,5 @@
 -- What holds along every run of calls that follows an opening. Assumes nothing.
-use Rattle.std.proofs.Common.{◌≡◌, ℕ, zero, suc, ◌+◌, ◌-◌, Bool, true, false, cond, List, [], ◌∷◌, ◌++◌, length, replicate, Some, None, Ok, Option, sym, refl, ap, ◌∙◌, subst, arith}
+use Rattle.std.proofs.Common.{◌≡◌, ℕ, zero, suc, ◌+◌, ◌-◌, ◌≤◌, Bool, true, false, cond, List, [], ◌∷◌, ◌++◌, length, replicate, Some, None, Ok, Option, sym, refl, ap, ◌∙◌, subst, arith}
 use Rattle.std.specs.Prelude.{IfSome}
 use Rattle.std.specs.Result.{result_unwrap_or}
 use native.Mathlib.Decide.{dec_le, dec_lt}
@@ -88,12 +88,12 @@ module _ {S F : Type 0} (m : Meaning S F) where
         ]
       ]
 
-  -- with no order out it is enough that the plant stands at a state
-  pub sound_idle : (b : ℕ) (s : S) (n : ℕ) → m.is_state s ≡ true → Sound m b (ledger s n None)
-  sound_idle b s n h = record { state = h; order = tt }
+  -- with no order out it is enough that the plant stands at a state and that the reports are within the bound
+  pub sound_idle : (b : ℕ) (s : S) (n : ℕ) → n ≤ b → m.is_state s ≡ true → Sound m b (ledger s n None)
+  sound_idle b s n w h = record { state = h; within = w; order = tt }
 
-  pub sound_ordered : (b : ℕ) (s : S) (n : ℕ) (o : Order) → m.is_state s ≡ true → Due m s (b - n) o → Sound m b (ledger s n (Some o))
-  sound_ordered b s n o h due = record { state = h; order = due }
+  pub sound_ordered : (b : ℕ) (s : S) (n : ℕ) (o : Order) → n ≤ b → m.is_state s ≡ true → Due m s (b - n) o → Sound m b (ledger s n (Some o))
+  sound_ordered b s n o w h due = record { state = h; within = w; order = due }
 
 -- ---- runs that follow one another
 
@@ -120,13 +120,13 @@ module _ {S F : Type 0} (m : Meaning S F) (v : Shown S) (b : ℕ) where
 
 module _ {S F : Type 0} (m : Meaning S F) (law : Lawful m) (v : Shown S) (b : ℕ) where
   -- a finding that is accepted, or not
-  sound_found : (s t : S) (n : ℕ) (is : Bool) → m.is_state t ≡ is → m.is_state s ≡ true → Sound m b (cond is (ledger t n None) (ledger s n None))
-  sound_found s t n true e h = sound_idle m b t n e
-  sound_found s t n false e h = sound_idle m b s n h
+  sound_found : (s t : S) (n : ℕ) (is : Bool) → m.is_state t ≡ is → n ≤ b → m.is_state s ≡ true → Sound m b (cond is (ledger t n None) (ledger s n None))
+  sound_found s t n true e w h = sound_idle m b t n w e
+  sound_found s t n false e w h = sound_idle m b s n w h
 
   -- one call
   sound_next : (s : S) (n : ℕ) (out : Option Order) (c : Call S) (a : Answer) → Says m v b (ledger s n out) c a → Sound m b (ledger s n out) → Sound m b (reckon m (ledger s n out) c a)
-  sound_next s n None (calls.Ask x y) (answers.Order o) says sound = sound_ordered m b s n o sound.state (due_when_advised m s (b - n) x y o sound.state (says.none refl))
+  sound_next s n None (calls.Ask x y) (answers.Order o) says sound = sound_ordered m b s n o sound.within sound.state (due_when_advised m s (b - n) x y o sound.state (says.none refl))
   sound_next s n None (calls.Ask x y) answers.Reached says sound = sound
   sound_next s n None (calls.Ask x y) answers.NoWay says sound = sound
   sound_next s n None (calls.Ask x y) (answers.Accepted k) says sound = sound
@@ -136,10 +136,10 @@ module _ {S F : Type 0} (m : Meaning S F) (law : Lawful m) (v : Shown S) (b : �
   sound_next s n None calls.Done a says sound = sound
   sound_next s n (Some o) calls.Done a says sound =
       let due = sound.order in
-      sound_idle m b _ (n + 1) (ap m.is_state (moves_there m s (b - n) o due) ∙ law.step_state s o.action _ (leads_there m s (b - n) o due))
+      sound_idle m b _ (n + 1) (omega arith) (ap m.is_state (moves_there m s (b - n) o due) ∙ law.step_state s o.action _ (leads_there m s (b - n) o due))
   sound_next s n None calls.Failed a says sound = sound
-  sound_next s n (Some o) calls.Failed a says sound = sound_idle m b s (n + 1) sound.state
-  sound_next s n None (calls.Find t) a says sound = sound_found s t n (m.is_state t) refl sound.state
+  sound_next s n (Some o) calls.Failed a says sound = let due = sound.order in sound_idle m b s (n + 1) (omega arith) sound.state
+  sound_next s n None (calls.Find t) a says sound = sound_found s t n (m.is_state t) refl sound.within sound.state
   sound_next s n (Some o) (calls.Find t) a says sound = sound
   sound_next s n out (calls.Show p) a says sound = sound
 

@@ -14,7 +14,9 @@ pub record Due {S F : Type 0} (m : Meaning S F) (s : S) (r : ℕ) (o : Order) : 
   pub distance : Distance m s o.steps
   pub begins : Begins m s o.steps o.action
 
--- The plant stands at a state, and the order out, if there is one, is right there.
+-- The plant stands at a state, no more reports were accepted than the bound, and the order out, if there is one, is right where the
+-- plant stands.
 pub record Sound {S F : Type 0} (m : Meaning S F) (b : ℕ) (l : Ledger S) : Type 0 where
   pub state : m.is_state l.stands ≡ true
+  pub within : l.reports ≤ b
   pub order : IfSome l.out (Due m l.stands (left b l))

@@ -1,5 +1,5 @@
 // What a campaign tells of itself. Nothing that is asked changes it.
-ghost use Rattle.std.specs.Prelude.{◌≡◌, true, IfSome};
+ghost use Rattle.std.specs.Prelude.{◌≡◌, ◌≤◌, true, IfSome};
 ghost use Rattle.campaign.specs.Ledger.{left};
 ghost use Rattle.campaign.specs.Promise.{Promise};
 ghost use Rattle.campaign.specs.Sound.{Due};
@@ -33,9 +33,10 @@ impl<M: Model> Campaign<M> {
         self.ledger.stands
     }
 
-    // How many reports were accepted.
+    // How many reports were accepted: no more than the bound.
     pub fn reports(&self) -> u16
-        ensures { result ≡ self.now.ledger.reports }
+        ensures value { result ≡ self.now.ledger.reports }
+        ensures within { result ≤ self.now.bound }
     {
         self.ledger.reports
     }
@@ -52,6 +53,6 @@ impl<M: Model> Campaign<M> {
     pub fn left(&self) -> u16
         ensures { result ≡ left self.now.bound self.now.ledger }
     {
-        self.bound.saturating_sub(self.ledger.reports)
+        self.bound - self.ledger.reports
     }
 }
