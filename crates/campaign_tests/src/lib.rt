@@ -6,7 +6,8 @@ mod tests {
     use campaign::{Advice, Answer, Call, Campaign, CampaignFault, Event, Order};
     use counter::Counter;
     use model::{Cause, Model, ShownModel, Unshown};
-    use replay::replay;
+    use replay::{ShortLog, replay};
+    use std::alloc::AllocError;
     use std::test::Fail;
     use trail::Trail;
 
@@ -117,6 +118,33 @@ mod tests {
         assert_eq!(rt; CampaignFault::NoOrder.number(), 32);
         assert_eq!(rt; CampaignFault::FewStates.number(), 34);
         assert_eq!(rt; CampaignFault::FewActions.number(), 35);
+    }
+
+    #[test]
+    fn texts_of_calls_and_refusals(rt: HostRuntime) -> Result<(), AllocError> {
+        let alloc = rt.alloc();
+        let ask = Call::Ask {
+            states: 25,
+            actions: 24,
+        };
+        let texts = [
+            (ask, "ask with places for 25 states and 24 actions"),
+            (Call::Done, "done"),
+            (Call::Failed, "failed"),
+            (Call::Find(7), "find 7"),
+            (Call::Show(3), "show place 3"),
+        ];
+        for (call, text) in texts {
+            assert_eq!(rt; format!(in alloc; "{call}")?.as_str(), text);
+        }
+        let short = ShortLog {
+            model: Counter::new(1, 9),
+        };
+        assert_eq!(rt;
+            format!(in alloc; "{short}")?.as_str(),
+            "too few places for the log"
+        );
+        Ok(())
     }
 
     #[test]

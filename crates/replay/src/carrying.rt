@@ -8,6 +8,7 @@ use model::ShownModel;
 use trail::Trail;
 
 // Asks over trails on the lent places.
+// Not part of `ask_within`: tried, and over a part of a slice no fact tied what a trail leaves to that part.
 fn ask_over<M: ShownModel>(
     campaign: &mut Campaign<M>,
     states: &mut [M::State],
@@ -39,6 +40,7 @@ fn ask_within<M: ShownModel>(
 
 // Carries out one call, and gives its answer. Asking uses as many of the lent places as the call allows, and no more than
 // there are.
+// The campaign and the places are parameters, and no struct of three loans: one would be made and taken apart at each call.
 pub fn carry_out<M: ShownModel>(
     campaign: &mut Campaign<M>,
     call: Call<M::State>,
@@ -59,7 +61,7 @@ pub fn carry_out<M: ShownModel>(
     }
 }
 
-// The call as it is carried out over so many lent places.
+// The call as it is carried out over so many lent places. No method, since `Call` is a type of another crate.
 pub fn limit<S: Copy>(call: Call<S>, states: usize, actions: usize) -> Call<S>
     ensures { result ≡ limited states actions call }
 {
