@@ -14,7 +14,7 @@ use Rattle.campaign.specs.Sound.{Due, Sound}
 use Rattle.campaign.specs.declared.ledger.Ledger.{Ledger}
 use Rattle.campaign.specs.declared.order.Order.{Order}
 
-module _ {S F : Type 0} (m : Meaning S F) (b : ℕ) (l : Ledger S) (kept : ∥ Sound m b l ∥₁) where
+module _ {S F : Type 0} {m : Meaning S F} {b : ℕ} {l : Ledger S} (kept : ∥ Sound m b l ∥₁) where
   pub state : m.is_state l.stands ≡ true
   state = ∥∥₁_elim kept (Bool-set _ _) (λ s. s.state)
 

@@ -12,6 +12,6 @@ invariant_of-self-clause-sound g c =
     let m = g.M.Model.meaning held.model in
     let s = held.ledger.stands in
     let order = c.in-Order.order in
-    let here = state m held.bound held.ledger held.sound in
+    let here = state held.sound in
     let advised = subst₂ (λ r a. Advised m s r (room c.args.states.now) (room c.args.actions.now) (of_ask (Ok a))) c.left-left.ensures c.in-Order.is c.in_ok-advice.ensures.says in
-    ∣ sound_ordered m held.bound s held.ledger.reports order (within m held.bound held.ledger held.sound) here (due_when_advised m s _ _ _ order here advised) ∣₁
+    ∣ sound_ordered m held.bound s held.ledger.reports order (within held.sound) here (due_when_advised m s _ _ _ order here advised) ∣₁

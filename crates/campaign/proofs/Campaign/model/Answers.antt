@@ -2,6 +2,4 @@ use Rattle.campaign.proofs.Kept.{promise}
 use Rattle.campaign.proofs.Campaign.model.Goals as goal
 
 pub returns-clause-promise : goal.returns-clause-promise
-returns-clause-promise g c =
-    let held = c.args.self.now in
-    promise (g.M.Model.meaning held.model) held.bound held.ledger held.sound (g.met.M.Model.lawful held.model)
+returns-clause-promise g c = promise c.args.self.now.sound (g.met.M.Model.lawful c.args.self.now.model)
