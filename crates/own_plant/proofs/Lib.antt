@@ -1,2 +1,1 @@
-mod Agreements
 mod Lending

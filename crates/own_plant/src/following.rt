@@ -1,10 +1,12 @@
 // Following the hall's rollover: a crew's calls, made one by one on a campaign, and then replayed.
-ghost use Rattle.own_plant.specs.Agreeing.{Same, Agrees};
+ghost use Rattle.std.specs.Prelude.{◌≡◌};
+ghost use Rattle.std.specs.Bool.{Decides};
+ghost use Rattle.own_plant.specs.Agreeing.{answers};
 
 use super::{ACTIONS, STATES};
 use campaign::{Answer, Call, Campaign, Event, Order};
 use hall::{Chain, Hall, Job, Plant, Store, Window};
-use model::{Cause, Model, ShownModel};
+use model::{Cause, Model};
 use replay::{carry_out, replay};
 use std::io;
 use trail::Trail;
@@ -25,19 +27,19 @@ const WINDOW_LEFT_OPEN: Plant = Plant {
 };
 
 // A crew that works to the goal with one step tried in vain, finds the window open again, and uses up its reports.
-fn crew_calls(hall: &Hall) -> [Call<Plant>; CALLS] {
-    let start = hall.start();
+fn crew_calls() -> [Call<Plant>; CALLS] {
+    let start = Hall.start();
     let ask = Call::Ask {
         states: STATES,
         actions: ACTIONS,
     };
     let few_states = Call::Ask {
-        states: BOUND as usize,
+        states: usize::from(BOUND),
         actions: ACTIONS,
     };
     let few_actions = Call::Ask {
         states: STATES,
-        actions: BOUND as usize - 1,
+        actions: usize::from(BOUND) - 1,
     };
     let impossible = Plant {
         window: Window::Open,
@@ -83,31 +85,18 @@ fn crew_calls(hall: &Hall) -> [Call<Plant>; CALLS] {
     ]
 }
 
-// What was found, as the first six numbers that are shown: also of a value that is not a state, which shows only zeros.
-fn print_plant(rt: &HostRuntime, plant: Plant) -> io::Result<()> {
-    print!(rt; " {plant}")
-}
-
-fn print_call(rt: &HostRuntime, call: Call<Plant>) -> io::Result<()> {
+// An asking that has all the places that it can need does not tell them.
+fn print_call(rt: &impl Print, call: Call<Plant>) -> io::Result<()> {
     match call {
         Call::Ask {
             states: STATES,
             actions: ACTIONS,
         } => print!(rt; "ask"),
-        Call::Ask { states, actions } => print!(rt;
-            "ask with places for {states} states and {actions} actions"
-        ),
-        Call::Done => print!(rt; "done"),
-        Call::Failed => print!(rt; "failed"),
-        Call::Find(plant) => {
-            print!(rt; "find")?;
-            print_plant(rt, plant)
-        }
-        Call::Show(place) => print!(rt; "show place {place}"),
+        _ => print!(rt; "{call}"),
     }
 }
 
-fn print_answer(rt: &HostRuntime, answer: Answer) -> io::Result<()> {
+fn print_answer(rt: &impl Print, answer: Answer) -> io::Result<()> {
     if let Answer::Order(Order { action, .. }) = answer
         && let Ok(job) = Job::try_from(action)
     {
@@ -116,50 +105,29 @@ fn print_answer(rt: &HostRuntime, answer: Answer) -> io::Result<()> {
     println!(rt; ": {answer}")
 }
 
-fn same(answer: Answer, other: Answer) -> bool
-    ensures { Same answer other result }
-{
-    answer == other
-}
-
 // Whether two logs have the same answers.
 fn agrees(log: &[Event<Plant>], other: &[Event<Plant>]) -> bool
-    ensures { Agrees log.now other.now result }
+    ensures { Decides result (answers log.now ≡ answers other.now) }
 {
-    if log.len() != other.len() {
-        return false;
-    }
-    for i in 0..log.len() {
-        if !same(log[i].answer, other[i].answer) {
-            return false;
-        }
-    }
-    true
+    let said = log.iter().map(|event| event.answer);
+    let others = other.iter().map(|event| event.answer);
+    log.len() == other.len() && said.zip(others).all(|(answer, other)| answer == other)
 }
 
 // Replays the calls into the lent places of a log, and says whether the answers are those of the other log.
 fn print_replay(
-    rt: &HostRuntime,
-    hall: &Hall,
+    rt: &impl Print,
     calls: &[Call<Plant>],
     places: &mut [Event<Plant>],
     other: &[Event<Plant>],
 ) -> io::Result<()> {
-    let mut states = [hall.start(); STATES];
+    let mut states = [Hall.start(); STATES];
     let mut actions = [0; ACTIONS];
-    let count = calls.len();
-    print!(rt; "replay of {count} calls: ")?;
+    print!(rt; "replay of {} calls: ", calls.len())?;
     let mut log = Trail::new(places);
-    let replayed = replay(*hall, BOUND, calls, &mut states, &mut actions, &mut log);
-    match replayed {
-        Ok(campaign) => {
-            let reports = campaign.reports();
-            print!(rt; "reports: {reports}, ")?;
-        }
-        Err(short) => {
-            let number = short.number();
-            return println!(rt; "refused, {number}: too few places for the log");
-        }
+    match replay(Hall, BOUND, calls, &mut states, &mut actions, &mut log) {
+        Ok(campaign) => print!(rt; "reports: {}, ", campaign.reports())?,
+        Err(short) => return println!(rt; "refused, {}: {short}", short.number()),
     }
     if agrees(places, other) {
         println!(rt; "the answers agree")
@@ -170,14 +138,13 @@ fn print_replay(
 
 // Makes the calls on a campaign, prints each with its answer, and keeps a log.
 fn print_calls(
-    rt: &HostRuntime,
-    hall: &Hall,
+    rt: &impl Print,
     calls: &[Call<Plant>],
     log: &mut Trail<Event<Plant>>,
 ) -> io::Result<()> {
-    let mut campaign = Campaign::open(*hall, BOUND);
+    let mut campaign = Campaign::open(Hall, BOUND);
     for call in calls {
-        let mut states = [hall.start(); STATES];
+        let mut states = [Hall.start(); STATES];
         let mut actions = [0; ACTIONS];
         let answer = carry_out(&mut campaign, *call, &mut states, &mut actions);
         print_call(rt, *call)?;
@@ -191,15 +158,15 @@ fn print_calls(
 }
 
 // Follows a campaign call by call, and replays it.
-pub fn print_campaign(rt: &HostRuntime, hall: &Hall) -> io::Result<()> {
+pub fn print_campaign(rt: &impl Print) -> io::Result<()> {
     println!(rt; "A campaign of at most {BOUND} steps.")?;
-    let calls = crew_calls(hall);
+    let calls = crew_calls();
     let blank = Event {
         call: Call::Done,
         answer: Answer::NoWay,
     };
     let mut first = [blank; CALLS];
-    print_calls(rt, hall, &calls, &mut Trail::new(&mut first))?;
-    print_replay(rt, hall, &calls, &mut [blank; CALLS - 1], &first)?;
-    print_replay(rt, hall, &calls, &mut [blank; CALLS], &first)
+    print_calls(rt, &calls, &mut Trail::new(&mut first))?;
+    print_replay(rt, &calls, &mut [blank; CALLS - 1], &first)?;
+    print_replay(rt, &calls, &mut [blank; CALLS], &first)
 }

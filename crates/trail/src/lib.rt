@@ -11,7 +11,8 @@ mod questions;
 
 pub use fault::TrailFault;
 
-// The first `len` of the lent places hold the elements. A length beyond the places counts as all of them.
+// The first `len` of the lent places hold the elements. A length beyond the places counts as all of them: an invariant against
+// it would spare one `min`, and each question would owe a proof that the trail is still the same value.
 #[derive(Drop)]
 pub struct Trail<'a, T> {
     places: &'a mut [T],

@@ -1,0 +1,17 @@
+// The numbers that describe a plant, as text.
+use hall::{Hall, Plant};
+use model::ShownModel;
+use std::fmt;
+
+// Each number has a space before it.
+#[derive(Clone, Copy)]
+pub struct Numbers(pub Plant);
+
+impl fmt::Display for Numbers {
+    fn fmt<W: fmt::Write>(&self, f: &mut fmt::Formatter<W>) -> fmt::Result {
+        for place in 1..=Hall.places() {
+            write!(f, " {}", Hall.number(self.0, place))?;
+        }
+        Ok(())
+    }
+}
