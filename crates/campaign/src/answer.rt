@@ -18,7 +18,7 @@ pub enum Advice {
     NoWay,
 }
 
-// The answer to any call, for a list of different calls.
+// The answer to any call, for a list of different calls. It repeats the cases of `Advice`, so that whoever reads a log matches once.
 #[derive(Clone, Copy, PartialEq, Eq, Debug)]
 pub enum Answer {
     Order(Order),

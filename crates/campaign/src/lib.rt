@@ -30,6 +30,6 @@ pub struct Campaign<M: Model> {
     bound: u16,
     ledger: Ledger<M::State>,
     ghost read: { bound ≤ 24 },
-    // Truncated, since an order may be right in more than one way.
+    // That there is a proof, and not which: an order may be right in more than one way, and the campaign is still the same.
     ghost sound: { ∥ Sound (M.Model.meaning model) bound ledger ∥₁ },
 }

@@ -16,7 +16,7 @@ use planner::{PlanAnswer, PlanFault, check, plan};
 use std::io;
 use trail::Trail;
 
-// As many places as the longest plan needs.
+// As many places as the longest plan needs. They are lent: planning has no memory of its own.
 const STATES: usize = 25;
 
 const ACTIONS: usize = 24;

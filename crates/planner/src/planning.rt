@@ -1,5 +1,6 @@
 // Planning: the fewest actions that lead from a state to the goal.
 // It goes through the lists of no action, of one, of two .., each time depth first and in their order.
+// `plan` takes two trails and no struct of both: they stand on two slices that the caller lends and reads one by one.
 ghost use Rattle.std.specs.Prelude.{◌≡◌, ◌+◌, Ok};
 ghost use Rattle.planner.specs.Path.{KeptPast};
 ghost use Rattle.planner.specs.Planned.{Planned, Ready, bound_read};

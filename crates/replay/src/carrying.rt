@@ -39,7 +39,7 @@ fn ask_within<M: ShownModel>(
 }
 
 // Carries out one call, and gives its answer. Asking uses as many of the lent places as the call allows, and no more than
-// there are.
+// there are. A call is a value and no closure, since a log keeps it.
 // The campaign and the places are parameters, and no struct of three loans: one would be made and taken apart at each call.
 pub fn carry_out<M: ShownModel>(
     campaign: &mut Campaign<M>,
