@@ -6,13 +6,17 @@ use Rattle.std.specs.Coded.{le_prop}
 use Rattle.std.specs.Prelude.{IfSome}
 use Rattle.std.specs.Result.{result_unwrap_or}
 use Rattle.model.specs.Meaning.{Meaning, Lawful}
-use Rattle.campaign.proofs.Runs.{promised}
+use Rattle.campaign.proofs.Runs.{promised, sound_idle}
 use Rattle.campaign.proofs.Search.{begins}
 use Rattle.campaign.specs.Ledger.{left}
 use Rattle.campaign.specs.Promise.{Promise}
 use Rattle.campaign.specs.Sound.{Due, Sound}
 use Rattle.campaign.specs.declared.ledger.Ledger.{Ledger}
 use Rattle.campaign.specs.declared.order.Order.{Order}
+
+-- with no order out it is enough that the plant stands at a state, with no more reports than the bound
+pub idle : {S F : Type 0} {m : Meaning S F} {b : ℕ} (s : S) (n : ℕ) → n ≤ b → m.is_state s ≡ true → ∥ Sound m b (record { stands = s; reports = n; out = None }) ∥₁
+idle s n few h = ∣ sound_idle _ _ s n few h ∣₁
 
 module _ {S F : Type 0} {m : Meaning S F} {b : ℕ} {l : Ledger S} (kept : ∥ Sound m b l ∥₁) where
   pub state : m.is_state l.stands ≡ true
@@ -54,6 +58,9 @@ module _ {S F : Type 0} {m : Meaning S F} {b : ℕ} {l : Ledger S} (kept : ∥ S
       by_order : (out : Option Order) → l.out ≡ out → IfSome out (Due m l.stands (left b l))
       by_order None e = tt
       by_order (Some o) e = due o e law
+
+  pub order : Lawful m → IfSome l.out (Due m l.stands (left b l))
+  order law = (sound law).order
 
   -- whatever calls follow, their answers keep the promise
   pub promise : Lawful m → Promise m b l

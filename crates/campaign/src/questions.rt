@@ -26,6 +26,7 @@ impl<M: Model> Campaign<M> {
     }
 
     // Where the plant stands, which always is a state.
+    #[tactic(auto, using(crate::proofs::Kept::state))]
     pub fn stands(&self) -> M::State
         ensures value { result ≡ self.now.ledger.stands }
         ensures state { (M.Model.meaning self.now.model).is_state result ≡ true }
@@ -34,6 +35,7 @@ impl<M: Model> Campaign<M> {
     }
 
     // How many reports were accepted: no more than the bound.
+    #[tactic(auto, using(crate::proofs::Kept::within))]
     pub fn reports(&self) -> u16
         ensures value { result ≡ self.now.ledger.reports }
         ensures within { result ≤ self.now.bound }
@@ -42,6 +44,7 @@ impl<M: Model> Campaign<M> {
     }
 
     // The order out, if there is one. It is right where the plant stands.
+    #[tactic(auto, using(crate::proofs::Kept::order))]
     pub fn order(&self) -> Option<Order>
         ensures value { result ≡ self.now.ledger.out }
         ensures due { IfSome result (Due (M.Model.meaning self.now.model) self.now.ledger.stands (left self.now.bound self.now.ledger)) }
@@ -50,6 +53,7 @@ impl<M: Model> Campaign<M> {
     }
 
     // How many steps are left: the bound less the reports.
+    #[tactic(auto, using(crate::proofs::Kept::within))]
     pub fn left(&self) -> u16
         ensures { result ≡ left self.now.bound self.now.ledger }
     {

@@ -14,6 +14,7 @@ use model::Model;
 impl<M: Model> Campaign<M> {
     // The order was carried out: the plant moves to the state, if any, that the model gives for its action.
     // Answers how many reports were accepted by then.
+    #[tactic(auto, using(crate::proofs::Kept::next_state, crate::proofs::Kept::unspent))]
     pub fn done(&mut self) -> Result<u16, CampaignFault>
         ensures says { ReportSays self.old.ledger (of_report result) }
         ensures leaves { Leaves (M.Model.meaning self.old.model) self.old Call.Done (of_report result) self.new }
@@ -27,6 +28,8 @@ impl<M: Model> Campaign<M> {
     }
 
     // The order was tried in vain: the plant stays. Answers how many reports were accepted by then.
+    // Not one function with `done` that takes the next state as a closure: what they share is in `report` already.
+    #[tactic(auto, using(crate::proofs::Kept::state, crate::proofs::Kept::unspent))]
     pub fn failed(&mut self) -> Result<u16, CampaignFault>
         ensures says { ReportSays self.old.ledger (of_report result) }
         ensures leaves { Leaves (M.Model.meaning self.old.model) self.old Call.Failed (of_report result) self.new }
@@ -39,6 +42,7 @@ impl<M: Model> Campaign<M> {
     }
 
     // Adds a report and closes the order, with the plant at `stands` from then on.
+    #[tactic(auto, using(crate::proofs::Kept::idle))]
     fn report(&mut self, stands: M::State) -> u16
         requires state { (M.Model.meaning self.old.model).is_state stands ≡ true }
         requires unspent { self.old.ledger.reports < self.old.bound }

@@ -49,7 +49,8 @@ fn last<T: Copy>(places: &[T], len: usize) -> Option<(T, usize)>
     Some((*x, front.len()))
 }
 
-// Writes an element behind the last, and answers how many there are then.
+// Writes an element behind the last, and answers how many there are then. By index, since after a loan by `get_mut` nothing is
+// known of the slice.
 fn put<T: Copy>(places: &mut [T], len: usize, x: T) -> Result<usize, TrailFault>
     ensures { Puts places.old len x result places.new }
 {
