@@ -38,7 +38,7 @@ module _ {S F : Type 0} {m : Meaning S F} {b : ℕ} {l : Ledger S} (kept : ∥ S
     next_state law (Ok u) t e f = ap m.is_state f ∙ law.step_state l.stands o.action u (sym e)
     next_state law (Err f) t e g = ap m.is_state g ∙ state
 
-    -- what is truncated of it either has one proof at most or can be looked for
+    -- each part of it either has one proof at most or can be decided
     due : Lawful m → Due m l.stands (left b l) o
     due law =
         let begun = begins m law o.steps l.stands o.action (∥∥₁_map kept (λ s. (due_in s).begins)) in

@@ -37,7 +37,8 @@ impl Cause for CampaignFault {
     }
 }
 
-// Why planning is refused is why asking is.
+// Why planning is refused is why asking is. Cases of its own and no case that holds a `PlanFault`: finding refuses a value too, and
+// plans nothing.
 impl From<PlanFault> for CampaignFault {
     ghost from_gives = { λ f r. r ≡ of_plan f };
 

@@ -7,9 +7,7 @@ ghost use Rattle.planner.specs.Planned.{bound_read};
 use super::Campaign;
 use super::ledger::Ledger;
 use model::Model;
-
-// The highest bound; one above is read as this.
-const HIGHEST: u16 = 24;
+use planner::LONGEST;
 
 impl<M: Model> Campaign<M> {
     // The plant stands at the model's start; no report was accepted, and no order is out. Whatever calls follow, their
@@ -20,7 +18,7 @@ impl<M: Model> Campaign<M> {
         ensures ledger { result.ledger ≡ opening (M.Model.meaning model) }
         ensures promise { Promise (M.Model.meaning result.model) result.bound result.ledger }
     {
-        let most = bound.min(HIGHEST);
+        let most = bound.min(LONGEST);
         let ledger = Ledger {
             stands: model.start(),
             reports: 0,

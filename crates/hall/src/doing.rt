@@ -60,7 +60,7 @@ fn can_put_back(gateway: Gateway, chain: Chain, window: Window) -> Result<(), Ha
     }
 }
 
-// Whether a job can be done, or why not.
+// Whether a job can be done, or why not. A match here and in `done`, since the definitions go by the same cases.
 fn can_do(plant: Plant, job: Job) -> Result<(), HallFault>
     ensures { result ≡ can_do plant job }
 {

@@ -18,7 +18,8 @@ pub trait Model {
 
     ghost meaning: { Self → Meaning Self.State Self.Fault };
 
-    // How many actions there are; they are numbered from 1. Numbers and no enum: how many there are may be data of a plant.
+    // How many actions there are; they are numbered from 1. Numbers and no type of its own: orders and lists tell an
+    // action by its number, whatever the model.
     fn actions(&self) -> u16
         ensures { result ≡ (meaning self.now).actions };
 

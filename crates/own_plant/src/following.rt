@@ -85,7 +85,8 @@ fn crew_calls() -> [Call<Plant>; CALLS] {
     ]
 }
 
-// An asking that has all the places that it can need does not tell them.
+// An asking that has all the places that it can need does not tell them. How many that is, is this program's own to say, so the match
+// stands here and not in the text of a call.
 fn print_call(rt: &impl Print, call: Call<Plant>) -> io::Result<()> {
     match call {
         Call::Ask {
@@ -105,7 +106,7 @@ fn print_answer(rt: &impl Print, answer: Answer) -> io::Result<()> {
     println!(rt; ": {answer}")
 }
 
-// Whether two logs have the same answers.
+// Whether two logs have the same answers. By length and `all`: with `eq` of the two chains the proof did not close.
 fn agrees(log: &[Event<Plant>], other: &[Event<Plant>]) -> bool
     ensures { Decides result (answers log.now ≡ answers other.now) }
 {

@@ -3,7 +3,7 @@ use hall::{Hall, Plant};
 use model::ShownModel;
 use std::fmt;
 
-// Each number has a space before it.
+// Each number has a space before it. Of a value that is not a state all are 0, where the text of a `Plant` tells what it is.
 #[derive(Clone, Copy)]
 pub struct Numbers(pub Plant);
 

@@ -9,4 +9,4 @@ mod search;
 
 pub use checking::check;
 pub use fault::{CheckFault, PlanFault};
-pub use planning::{PlanAnswer, plan};
+pub use planning::{LONGEST, PlanAnswer, plan};

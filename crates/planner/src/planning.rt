@@ -11,8 +11,8 @@ use super::search::Search;
 use model::Model;
 use trail::Trail;
 
-// The longest list that is looked for.
-const LONGEST: u16 = 24;
+// The longest list that is looked for. A bound above it is read as this.
+pub const LONGEST: u16 = 24;
 
 // It has names of its own, and not those of an `Option`: 'no way' says something of the plant, where `None` would say that
 // there is no answer.

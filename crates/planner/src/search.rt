@@ -6,7 +6,8 @@ ghost use Rattle.planner.specs.Search.{Progress, Turned, Tries, Backs, Explored}
 use super::path::Path;
 use model::Model;
 
-// What one turn of the search comes to.
+// What one turn of the search comes to. Named cases and no `ControlFlow<bool, u16>`, in which `true` would have to mean found. The
+// next action is no count of a loop: the search goes back as well as on.
 #[derive(Clone, Copy)]
 enum Turn {
     // The path leads to the goal.

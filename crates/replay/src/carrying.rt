@@ -7,8 +7,8 @@ use campaign::{Answer, Call, Campaign};
 use model::ShownModel;
 use trail::Trail;
 
-// Asks over trails on the lent places.
-// Not part of `ask_within`: tried, and over a part of a slice no fact tied what a trail leaves to that part.
+// Asks over trails on the lent places. Tried as one with `ask_within`, and the proof did not close: after a loan of a part of a slice
+// no fact says that the part holds what the trail left in it.
 fn ask_over<M: ShownModel>(
     campaign: &mut Campaign<M>,
     states: &mut [M::State],
@@ -61,7 +61,8 @@ pub fn carry_out<M: ShownModel>(
     }
 }
 
-// The call as it is carried out over so many lent places. No method, since `Call` is a type of another crate.
+// The call as it is carried out over so many lent places. No method, since `Call` is a type of another crate. A match, since only an
+// asking has places.
 pub fn limit<S: Copy>(call: Call<S>, states: usize, actions: usize) -> Call<S>
     ensures { result ≡ limited states actions call }
 {

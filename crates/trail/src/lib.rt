@@ -11,15 +11,15 @@ mod questions;
 
 pub use fault::TrailFault;
 
-// The first `len` of the lent places hold the elements. A length beyond the places counts as all of them: an invariant against
-// it would spare one `min`, and each question would owe a proof that the trail is still the same value.
+// The first `len` of the lent places hold the elements. A length beyond the places counts as all of them. An invariant that rules it
+// out was tried and is no plainer: it spares one `min`, and six methods owe a proof that the prover does not find.
 #[derive(Drop)]
 pub struct Trail<'a, T> {
     places: &'a mut [T],
     len: usize,
 }
 
-// What a trail does with the slice of its places.
+// What a trail does with the slice of its places. Slice and length are apart, since a trail hands out its slice and not itself.
 
 // The elements: the places that are in use.
 fn in_use<T>(places: &[T], len: usize) -> &[T]
@@ -50,7 +50,7 @@ fn last<T: Copy>(places: &[T], len: usize) -> Option<(T, usize)>
 }
 
 // Writes an element behind the last, and answers how many there are then. By index, since after a loan by `get_mut` nothing is
-// known of the slice.
+// known of the slice's elements.
 fn put<T: Copy>(places: &mut [T], len: usize, x: T) -> Result<usize, TrailFault>
     ensures { Puts places.old len x result places.new }
 {

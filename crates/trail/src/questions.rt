@@ -1,4 +1,5 @@
-// What a trail tells of itself. Nothing that is asked changes it.
+// What a trail tells of itself. Nothing that is asked changes it. Each question first borrows the slice for writing: after a loan for
+// reading straight from the field nothing would be known of its elements.
 ghost use Rattle.std.specs.Prelude.{◌≡◌, ◌-◌, length, slice_get};
 ghost use Rattle.trail.specs.Held.{held, room};
 
