@@ -7,14 +7,14 @@ use trail::Trail;
 
 // The actions taken, and the states passed, the first of them the one that the path starts from.
 #[derive(Drop)]
-pub struct Path<'t, 's, 'a, S> {
-    pub states: &'t mut Trail<'s, S>,
-    pub actions: &'t mut Trail<'a, u16>,
+pub(crate) struct Path<'t, 's, 'a, S> {
+    pub(crate) states: &'t mut Trail<'s, S>,
+    pub(crate) actions: &'t mut Trail<'a, u16>,
 }
 
 impl<'t, 's, 'a, S: Copy> Path<'t, 's, 'a, S> {
     // How many actions were taken.
-    pub fn len(&mut self) -> usize
+    pub(crate) fn len(&mut self) -> usize
         ensures value { result ≡ length (taken self.old) }
         ensures same { self.new ≡ self.old }
     {
@@ -23,7 +23,7 @@ impl<'t, 's, 'a, S: Copy> Path<'t, 's, 'a, S> {
 
     // The state at the path's end; `default` where none was passed.
     #[tactic(auto, using(crate::proofs::Lasts::last_item))]
-    pub fn end(&mut self, default: S) -> S
+    pub(crate) fn end(&mut self, default: S) -> S
         ensures value { result ≡ last_or (passed self.old) default }
         ensures same { self.new ≡ self.old }
     {
@@ -31,7 +31,7 @@ impl<'t, 's, 'a, S: Copy> Path<'t, 's, 'a, S> {
     }
 
     // Begins again at `state`, with no action taken.
-    pub fn restart(&mut self, state: S)
+    pub(crate) fn restart(&mut self, state: S)
         requires { 0 < room self.old.states.now }
         ensures taken { taken self.new ≡ [] }
         ensures passed { passed self.new ≡ state ∷ [] }
@@ -43,7 +43,7 @@ impl<'t, 's, 'a, S: Copy> Path<'t, 's, 'a, S> {
     }
 
     // Goes on by an action, to a state.
-    pub fn push(&mut self, action: u16, state: S)
+    pub(crate) fn push(&mut self, action: u16, state: S)
         requires { CanGrow self.old }
         ensures taken { taken self.new ≡ taken self.old ++ (action ∷ []) }
         ensures passed { passed self.new ≡ passed self.old ++ (state ∷ []) }
@@ -54,7 +54,7 @@ impl<'t, 's, 'a, S: Copy> Path<'t, 's, 'a, S> {
     }
 
     // Takes the last action back, and tells it; nothing where none was taken.
-    pub fn pop(&mut self) -> Option<u16>
+    pub(crate) fn pop(&mut self) -> Option<u16>
         ensures taken { TakesBack self.old result self.new }
         ensures kept { KeptPast 0 0 self.old self.new }
     {
@@ -64,7 +64,7 @@ impl<'t, 's, 'a, S: Copy> Path<'t, 's, 'a, S> {
     }
 
     // Lets the path go: the trails hold nothing.
-    pub fn clear(&mut self)
+    pub(crate) fn clear(&mut self)
         ensures taken { taken self.new ≡ [] }
         ensures passed { passed self.new ≡ [] }
         ensures kept { KeptPast 0 0 self.old self.new }

@@ -20,15 +20,15 @@ enum Turn {
 
 // A search through the lists of exactly `depth` actions from a state.
 #[derive(Drop)]
-pub struct Search<'m, M: Model> {
-    pub model: &'m M,
-    pub state: M::State,
-    pub depth: u16,
+pub(crate) struct Search<'m, M: Model> {
+    pub(crate) model: &'m M,
+    pub(crate) state: M::State,
+    pub(crate) depth: u16,
 }
 
 impl<'m, M: Model> Search<'m, M> {
     // Answers whether a list leads to the goal. The path then is the first that does.
-    pub fn explore(&self, path: &mut Path<M::State>) -> bool
+    pub(crate) fn explore(&self, path: &mut Path<M::State>) -> bool
         requires { HasRoom self.now.depth path.old }
         ensures explored { Explored (M.Model.meaning self.now.model.now) self.now.state self.now.depth result (taken path.new) (passed path.new) }
         ensures kept { KeptPast (self.now.depth + 1) self.now.depth path.old path.new }
