@@ -1,0 +1,3 @@
+pub mod Literal
+pub mod Set
+pub mod State
