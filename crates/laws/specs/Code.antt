@@ -8,6 +8,10 @@ use Rattle.laws.specs.declared.law.Body.{Body}
 use Rattle.laws.specs.declared.law.Law.{Law}
 use Rattle.laws.specs.declared.law.Law.TheVariants as law
 
+-- a row that says nothing: no action has the number 0
+abbrev pub no_row : Law
+no_row = law.Impossible 0 (record { from = 0; count = 0 })
+
 -- the literals of a body, of those that lie beside the rows
 abbrev pub body_of : List Literal → Body → List Literal
 body_of ls b = take b.count (drop b.from ls)

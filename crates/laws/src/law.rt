@@ -1,4 +1,7 @@
 // Rows.
+ghost use Rattle.std.specs.Prelude.{◌≡◌};
+ghost use Rattle.laws.specs.Code.{no_row};
+
 use literals::Literal;
 
 // A body: so many literals, from a place on, of those that lie beside the rows. It is true where all of them are.
@@ -26,4 +29,16 @@ pub enum Law {
         head: Option<Literal>,
         body: Body,
     },
+}
+
+// What a place for a row holds at first: a row of no action, since they are numbered from 1.
+impl Default for Law {
+    ghost is_default = { λ law. law ≡ no_row };
+
+    fn default() -> Law {
+        Law::Impossible {
+            action: 0,
+            body: Body { from: 0, count: 0 },
+        }
+    }
 }

@@ -61,6 +61,21 @@ impl Literal {
     }
 }
 
+// What a place for a literal holds at first: fluent 1 is false.
+impl Default for Literal {
+    ghost use Rattle.std.specs.Prelude.{◌≡◌, negsuc};
+    ghost use Rattle.literals.specs.Literal.{number_of};
+
+    ghost is_default = { λ l. number_of l ≡ negsuc 0 };
+
+    fn default() -> Literal {
+        Literal {
+            place: 0,
+            holds: false,
+        }
+    }
+}
+
 // The literal with a number, refused where there is none.
 impl TryFrom<i16> for Literal {
     type Error = NoLiteral;

@@ -1,0 +1,4 @@
+pub mod Entry
+pub mod Limits
+pub mod Number
+pub mod Single
