@@ -2,3 +2,4 @@ pub mod Entry
 pub mod Limits
 pub mod Number
 pub mod Single
+pub mod Start

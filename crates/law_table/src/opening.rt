@@ -1,8 +1,9 @@
 // Beginning a draft, its goal and its start.
-ghost use Rattle.std.specs.Prelude.{◌≡◌, ◌&&◌, ◌||◌};
+ghost use Rattle.std.specs.Prelude.{◌≡◌, ◌&&◌, ◌||◌, List, [], IfOk};
 ghost use Rattle.literals.specs.Literal.{same};
 ghost use Rattle.literals.specs.Set.{has};
 ghost use Rattle.law_table.specs.Entry.{Begun, GoalEntered, StartEntered};
+ghost use Rattle.law_table.specs.Start.{Given, GivenAfter};
 
 use super::draft::Draft;
 use super::fault::EntryFault;
@@ -12,7 +13,8 @@ use literals::{Literal, LiteralSet};
 impl Draft {
     // A draft of so many fluents and actions, with no row, no goal and no start.
     pub fn new(fluents: u16, actions: u16) -> Result<Draft, EntryFault>
-        ensures { Begun fluents actions result }
+        ensures begun { Begun fluents actions result }
+        ensures given { IfOk result (λ d. Given d []) }
     {
         if fluents == 0 || fluents > 64 || actions > 200 {
             return Err(EntryFault::OutOfRange);
@@ -42,7 +44,8 @@ impl Draft {
 
     // A literal is true at the start.
     pub fn start(&mut self, number: i16) -> Result<(), EntryFault>
-        ensures { StartEntered self.old number result self.new }
+        ensures entered { StartEntered self.old number result self.new }
+        ensures given { (ls : List Literal) → Given self.old ls → GivenAfter ls number result self.new }
     {
         let literal = self.read(number)?;
         self.again = repeated(self.given, self.again, literal);
