@@ -1,6 +1,6 @@
 -- The literals that were given for the start of a draft.
-use Rattle.std.specs.Prelude.{◌≡◌, ℕ, zero, suc, ℤ, Bool, true, false, List, [], ◌∷◌, if◌then◌else◌, Result, Ok, Err}
-use Rattle.literals.specs.Literal.{number_of, same}
+use Rattle.std.specs.Prelude.{◌≡◌, ℕ, zero, suc, ◌+◌, ◌<◌, ℤ, Bool, true, false, not, ◌&&◌, ◌||◌, Option, Some, None, List, [], ◌∷◌, if◌then◌else◌, Result, Ok, Err}
+use Rattle.literals.specs.Literal.{number_of, same, opposite}
 use Rattle.literals.specs.Set.{has}
 use Rattle.literals.specs.declared.literal.Literal.{Literal}
 use Rattle.law_table.specs.declared.draft.Draft.{Draft}
@@ -27,3 +27,21 @@ Given d ls = (k : Literal) → (has d.given k ≡ at_least_once (count k ls)) ×
 abbrev pub GivenAfter : List Literal → ℤ → Result (Unit {0}) EntryFault → Draft → Type 0
 GivenAfter ls number (Ok u) new = (l : Literal) × (number_of l ≡ number) × Given new (l ∷ ls)
 GivenAfter ls number (Err e) new = Given new ls
+
+-- whether the fluent of the literal has exactly one start literal
+abbrev pub starts_once : Draft → Literal → Bool
+starts_once d l = ((has d.given l && not (has d.given (opposite l))) || (not (has d.given l) && has d.given (opposite l))) && (not (has d.again l) && not (has d.again (opposite l)))
+
+-- The lowest fluent that has not exactly one start literal, or that each has.
+abbrev pub Unstarted : Draft → Option ℕ → Type 0
+Unstarted d (Some f) = ((l : Literal) × (l.holds ≡ true) × (l.place + 1 ≡ f) × (l.place < d.fluents) × (starts_once d l ≡ false)) × ((k : Literal) → k.holds ≡ true → k.place + 1 < f → starts_once d k ≡ true)
+Unstarted d None = (k : Literal) → k.holds ≡ true → k.place < d.fluents → starts_once d k ≡ true
+
+-- how often the fluent of the literal is given a truth value
+abbrev pub times : Literal → List Literal → ℕ
+times l ls = count l ls + count (opposite l) ls
+
+-- The same of the literals that were given.
+abbrev pub UnstartedOf : Draft → List Literal → Option ℕ → Type 0
+UnstartedOf d ls (Some f) = ((l : Literal) × (l.holds ≡ true) × (l.place + 1 ≡ f) × (l.place < d.fluents) × (times l ls ≡ 1 → ⊥)) × ((k : Literal) → k.holds ≡ true → k.place + 1 < f → times k ls ≡ 1)
+UnstartedOf d ls None = (k : Literal) → k.holds ≡ true → k.place < d.fluents → times k ls ≡ 1

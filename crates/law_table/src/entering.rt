@@ -11,6 +11,7 @@ use literals::Literal;
 
 impl Draft {
     // An impossible row: the action cannot be done where the body is true.
+    #[tactic(auto, using(crate::proofs::Entries::impossible_entered))]
     pub fn impossible(&mut self, action: u16, body: &[i16]) -> Result<(), EntryFault>
         ensures { RowEntered self.old (impossible_if action body.now) result self.new }
     {
@@ -21,6 +22,7 @@ impl Draft {
     }
 
     // An effect row: the action makes the head true where the body is true.
+    #[tactic(auto, using(crate::proofs::Entries::effect_entered))]
     pub fn effect(&mut self, action: u16, head: i16, body: &[i16]) -> Result<(), EntryFault>
         ensures { RowEntered self.old (causes action head body.now) result self.new }
     {

@@ -90,6 +90,24 @@ mod tests {
         Ok(())
     }
 
+    // The lowest fluent with no start literal, with two, or with the same one twice.
+    #[test]
+    fn what_has_no_start(rt: HostRuntime) -> Result<(), EntryFault> {
+        let mut draft = Draft::new(3, 0)?;
+        assert_eq!(rt; draft.unstarted(), Some(1));
+        draft.start(-3)?;
+        draft.start(1)?;
+        assert_eq!(rt; draft.unstarted(), Some(2));
+        draft.start(2)?;
+        assert_eq!(rt; draft.unstarted(), None);
+        draft.start(-3)?;
+        assert_eq!(rt; draft.unstarted(), Some(3));
+        draft.start(-1)?;
+        assert_eq!(rt; draft.unstarted(), Some(1));
+        assert_eq!(rt; gateway_and_press()?.unstarted(), None);
+        Ok(())
+    }
+
     // A body may have a literal twice, or a literal and its opposite. 192 rows of 8 literals fit, and 16 goal literals; one more does
     // not. Where a number is beyond its limit too, that is told.
     #[test]
