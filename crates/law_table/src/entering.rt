@@ -1,5 +1,5 @@
 // Entering rows.
-ghost use Rattle.std.specs.Prelude.{◌≡◌, ◌≤◌, length};
+ghost use Rattle.std.specs.Prelude.{◌≡◌, length};
 ghost use Rattle.law_table.specs.Entry.{RowLaid, RowEntered, impossible_if, causes, always};
 ghost use Rattle.law_table.specs.Limits.{Fits, body_laid, row_with};
 
@@ -65,6 +65,7 @@ impl Draft {
             return Err(EntryFault::Full);
         }
         match self.literals.try_extend_from_slice(body) {
+            // Never: where a row has room, its literals have.
             Err(_) => Err(EntryFault::Full),
             Ok(()) => {
                 self.laws.push(law);

@@ -1,5 +1,4 @@
 // The numbers of an entry, read.
-ghost use Rattle.std.specs.Prelude.{◌≡◌, ◌↔◌, IsOk, ◌≤◌};
 ghost use Rattle.law_table.specs.Entry.{LiteralRead, HeadRead, ActionRead, BodyRead};
 
 use super::draft::Draft;
@@ -8,6 +7,7 @@ use arrayvec::ArrayVec;
 use literals::Literal;
 
 impl Draft {
+    // A literal of the draft's fluents.
     pub(crate) fn read(&self, number: i16) -> Result<Literal, EntryFault>
         ensures { LiteralRead self.now.fluents number result }
     {
@@ -28,6 +28,7 @@ impl Draft {
         }
     }
 
+    // Whether there is such an action.
     pub(crate) fn check_action(&self, action: u16) -> Result<(), EntryFault>
         ensures { ActionRead self.now.actions action result }
     {
@@ -38,6 +39,7 @@ impl Draft {
         }
     }
 
+    // The literals of a body.
     pub(crate) fn read_body(&self, body: &[i16]) -> Result<ArrayVec<Literal, 8>, EntryFault>
         ensures { BodyRead self.now.fluents body.now result }
     {
