@@ -195,6 +195,43 @@ mod tests {
         Ok(())
     }
 
+    // Each call by the campaign's own function, and all of them replayed.
+    #[test]
+    fn own_calls_and_replayed_ones_agree(rt: HostRuntime) -> Result<(), Fail> {
+        let ask = Call::Ask {
+            states: 25,
+            actions: 24,
+        };
+        let counter = Counter::new(3, 5);
+        let mut campaign = Campaign::open(counter, 4);
+        let own = [
+            (Call::Done, Answer::from(campaign.done())),
+            (ask, Answer::from(asked(&mut campaign))),
+            (ask, Answer::from(asked(&mut campaign))),
+            (Call::Find(4), Answer::from(campaign.find(4))),
+            (Call::Failed, Answer::from(campaign.failed())),
+            (Call::Find(1000), Answer::from(campaign.find(1000))),
+            (Call::Find(4), Answer::from(campaign.find(4))),
+            (Call::Show(1), Answer::Number(campaign.show(1))),
+            (ask, Answer::from(asked(&mut campaign))),
+            (Call::Done, Answer::from(campaign.done())),
+            (ask, Answer::from(asked(&mut campaign))),
+        ];
+        let mut places = [BLANK; 11];
+        let mut log = Trail::new(&mut places);
+        let calls = own.map(|(call, _)| call);
+        let Ok(replayed) = replay(counter, 4, &calls, &mut [0; 25], &mut [0; 24], &mut log) else {
+            return Err(Fail::new("the log has room"));
+        };
+        assert_eq!(rt; replayed.reports(), campaign.reports());
+        assert_eq!(rt; replayed.stands(), campaign.stands());
+        for (event, (call, answer)) in places.iter().zip(own) {
+            assert_eq!(rt; event.call, call);
+            assert_eq!(rt; event.answer, answer);
+        }
+        Ok(())
+    }
+
     #[test]
     fn a_log_that_is_too_short(rt: HostRuntime) -> Result<(), Fail> {
         let calls = [Call::Show(1), Call::Show(2)];

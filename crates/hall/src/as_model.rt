@@ -56,10 +56,13 @@ impl PlantModel for Hall {
         ensures rules { IfOk result (λ next. Rules plant next) }
     {
         let job = Job::try_from(action)?;
-        if !plant.is_state() {
-            return Err(HallFault::NotAState);
+        // The plant is tested last, so that one jump by the action's number leads to the job.
+        let next = after(plant, job);
+        if plant.is_state() {
+            next
+        } else {
+            Err(HallFault::NotAState)
         }
-        after(plant, job)
     }
 }
 

@@ -1,6 +1,6 @@
-// The presses and gateways of the hall, and which press hangs on which gateway.
+// The presses and gateways of the hall, the number of each press, and the gateway that it hangs on.
 ghost use Rattle.std.specs.Prelude.{◌≡◌};
-ghost use Rattle.hall.specs.Network.{gateway};
+ghost use Rattle.hall.specs.Network.{gateway, press_number};
 
 use std::fmt;
 
@@ -27,15 +27,22 @@ impl Press {
             Press::Three => Gateway::Two,
         }
     }
+
+    // By this number a press is told.
+    pub fn number(self) -> u16
+        ensures { result ≡ press_number self }
+    {
+        match self {
+            Press::One => 1,
+            Press::Two => 2,
+            Press::Three => 3,
+        }
+    }
 }
 
 impl fmt::Display for Press {
     fn fmt<W: fmt::Write>(&self, f: &mut fmt::Formatter<W>) -> fmt::Result {
-        f.write_str(match self {
-            Press::One => "1",
-            Press::Two => "2",
-            Press::Three => "3",
-        })
+        write!(f, "{}", self.number())
     }
 }
 
