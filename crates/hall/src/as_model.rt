@@ -55,14 +55,12 @@ impl PlantModel for Hall {
         ensures value { result ≡ hall_meaning.step plant action }
         ensures rules { IfOk result (λ next. Rules plant next) }
     {
-        let job = Job::try_from(action)?;
-        // The plant is tested last, so that one jump by the action's number leads to the job.
-        let next = after(plant, job);
-        if plant.is_state() {
-            next
-        } else {
-            Err(HallFault::NotAState)
+        // The plant is tested first, so that one jump by the action's number leads to the job. A number that is no job's is still told
+        // before a value that is not a state.
+        if !plant.is_state() {
+            return Job::try_from(action).and(Err(HallFault::NotAState));
         }
+        after(plant, Job::try_from(action)?)
     }
 }
 

@@ -1,9 +1,9 @@
-// What a trail tells of itself. Nothing that is asked changes it. Each question that reads the slice first borrows it for writing:
-// after a loan for reading straight from the field nothing would be known of its elements.
+// What a trail tells of itself. Nothing that is asked changes it. Each question first borrows the slice for writing: after a loan for
+// reading straight from the field nothing would be known of its elements.
 ghost use Rattle.std.specs.Prelude.{◌≡◌, ◌-◌, length, slice_get};
 ghost use Rattle.trail.specs.Held.{held, room};
 
-use super::{Trail, count, item};
+use super::{Trail, count, item, last};
 
 impl<'a, T: Copy> Trail<'a, T> {
     // How many elements it holds.
@@ -38,7 +38,7 @@ impl<'a, T: Copy> Trail<'a, T> {
         ensures value { result ≡ slice_get (held self.old) (length (held self.old) - 1) }
         ensures same { self.new ≡ self.old }
     {
-        let end = self.len().saturating_sub(1);
-        self.get(end)
+        let places = &mut *self.places;
+        last(places, self.len).map(|(x, _)| x)
     }
 }
